@@ -1,0 +1,3 @@
+pub mod MarkedCases
+pub mod WorkedExamples
+pub mod Cases
