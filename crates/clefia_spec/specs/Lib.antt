@@ -6,3 +6,5 @@ pub mod FFunction
 pub mod Network
 pub mod KeySchedule
 pub mod Block
+pub mod XorLaws
+pub mod DigitLaws
