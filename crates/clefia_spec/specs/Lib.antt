@@ -8,3 +8,4 @@ pub mod KeySchedule
 pub mod Block
 pub mod XorLaws
 pub mod DigitLaws
+pub mod NetworkLaws
