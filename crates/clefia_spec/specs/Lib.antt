@@ -9,3 +9,7 @@ pub mod Block
 pub mod XorLaws
 pub mod DigitLaws
 pub mod NetworkLaws
+pub mod FieldLaws
+pub mod FFunctionLaws
+pub mod KeyLaws
+pub mod BlockLaws
