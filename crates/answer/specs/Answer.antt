@@ -1,0 +1,21 @@
+-- What each case of the program's answer means: the number of document 01, and the outcome that it stands for.
+use Prim.Native.Nat.{ℕ, _*_, _^_}
+use mathlib.Core.Path.{_≡_, refl}
+use Rattle.planbook_spec.specs.Outcome.{Outcome, refused, accepted, answer}
+use Rattle.answer.specs.declared.Answer.{Answer}
+use Rattle.answer.specs.declared.Answer.the-variants.{Accepted, Refused}
+
+-- The count of an accepted call; the number of the failed check times 2 ^ 32, with a count of 0.
+abbrev pub numberOf : Answer → ℕ
+numberOf (Accepted count) = count
+numberOf (Refused check) = check * 2 ^ 32
+
+-- The case that an outcome has.
+abbrev pub answerOf : Outcome → Answer
+answerOf (refused c) = Refused c
+answerOf (accepted n bs) = Accepted n
+
+pub number-answerOf : (o : Outcome) → numberOf (answerOf o) ≡ answer o
+unfolding answer
+number-answerOf (refused c) = refl
+number-answerOf (accepted n bs) = refl
