@@ -6,6 +6,8 @@ pub mod FFunction
 pub mod Network
 pub mod KeySchedule
 pub mod Block
+pub mod Cases
+pub mod WorkedExamples
 pub mod XorLaws
 pub mod DigitLaws
 pub mod NetworkLaws

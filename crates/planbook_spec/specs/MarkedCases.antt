@@ -9,7 +9,7 @@ use Rattle.clefia_spec.specs.Sbox.{ss0, ss1, ss2, ss3, s0, s1, bitOf, sumOfBits
 use Rattle.clefia_spec.specs.FFunction.{m0, m1, entry, rowTimes, matrixTimes, substitute, f0, f1}
 use Rattle.clefia_spec.specs.Network.{feistel, rotateBranches, rounds}
 use Rattle.clefia_spec.specs.KeySchedule.{bitRange, doubleSwapBits, doubleSwap}
-use Rattle.planbook_spec.specs.Cases.{Case, _gives_, AllHold, done, _and_}
+use Rattle.clefia_spec.specs.Cases.{Case, _gives_, AllHold, done, _and_}
 
 pub markedCases : List Case
 markedCases =

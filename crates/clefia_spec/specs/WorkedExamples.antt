@@ -3,14 +3,14 @@
 use Prim.Native.Nat.{ℕ}
 use mathlib.Core.List.{List, [], _∷_, _++_}
 use mathlib.Core.Path.{refl}
 use Rattle.clefia_spec.specs.Words.{complement, rotate, fromDigits, toDigits, fourAt, xors}
 use Rattle.clefia_spec.specs.Constants.{divideByZ, evenConstant, oddConstant, constantsFrom, firstT, constants}
 use Rattle.clefia_spec.specs.Field.{double, addProduct, product, squares, inverse}
 use Rattle.clefia_spec.specs.Sbox.{ss0, ss1, ss2, ss3, s0, s1, bitOf, sumOfBits, affine, fRows, gRows}
 use Rattle.clefia_spec.specs.FFunction.{m0, m1, entry, rowTimes, matrixTimes, substitute, f0, f1}
 use Rattle.clefia_spec.specs.Network.{feistel, rotateBranches, rounds, network, network4, network8}
 use Rattle.clefia_spec.specs.KeySchedule.{extendKey}
-use Rattle.planbook_spec.specs.Cases.{Case, _gives_, AllHold, done, _and_}
+use Rattle.clefia_spec.specs.Cases.{Case, _gives_, AllHold, done, _and_}
 
 -- The 24-byte key of section 2.5. Its first four words are the 16-byte key.
 abbrev pub key24 : List ℕ
