@@ -2,3 +2,5 @@ pub mod MarkedCases
 pub mod Outcome
 pub mod Checks
 pub mod Book
+pub mod OutcomeLaws
+pub mod Undoing

@@ -1,0 +1,108 @@
+-- Laws of outcomes. The first demand rests on one of them: a list of checks refuses under c exactly where c is the first that fails, and accepts exactly
+-- where all are passed.
+use Prim.Native.Nat.{ℕ, _+_, _*_, _^_}
+use mathlib.Core.Bool.{Bool, true, false}
+use mathlib.Core.List.{List, [], _∷_, _++_}
+use mathlib.Core.Logic.{_↔_, _⊎_, inl, inr, ⊎-map}
+use mathlib.Core.Path.{_≡_, refl, sym, subst}
+use native.Mathlib.Omega.{arith}
+use Rattle.planbook_spec.specs.Outcome.{Outcome, refused, accepted, answer, after, cased, Check, check, judged}
+
+-- c is the number of the first check that fails.
+pub data FirstFailure : List Check → ℕ → Type 0 where
+  here : {c : ℕ} {cs : List Check} → FirstFailure (check c false ∷ cs) c
+  later : {c d : ℕ} {cs : List Check} → FirstFailure cs c → FirstFailure (check d true ∷ cs) c
+
+-- No check fails.
+pub data AllPass : List Check → Type 0 where
+  none : AllPass []
+  more : {c : ℕ} {cs : List Check} → AllPass cs → AllPass (check c true ∷ cs)
+
+pub first-or-all : (cs : List Check) → ((c : ℕ) × FirstFailure cs c) ⊎ AllPass cs
+first-or-all [] = inr none
+first-or-all (check c true ∷ cs) = ⊎-map (λ f. (f .0, later (f .1))) more (first-or-all cs)
+first-or-all (check c false ∷ cs) = inl (c, here)
+
+pub judged-pass : {cs : List Check} → AllPass cs → (o : Outcome) → judged cs o ≡ o
+unfolding judged
+judged-pass none o = refl
+judged-pass (more p) o = judged-pass p o
+
+pub judged-first : {cs : List Check} {c : ℕ} → FirstFailure cs c → (o : Outcome) → judged cs o ≡ refused c
+unfolding judged
+judged-first here o = refl
+judged-first (later f) o = judged-first f o
+
+-- Lists of checks may be judged one after the other.
+pub judged-append : (cs ds : List Check) (o : Outcome) → judged (cs ++ ds) o ≡ judged cs (judged ds o)
+unfolding judged
+judged-append [] ds o = refl
+judged-append (check c true ∷ cs) ds o = judged-append cs ds o
+judged-append (check c false ∷ cs) ds o = refl
+
+-- What a call states that has these checks and, where it is accepted, this count and these bytes.
+pub record Judges (cs : List Check) (n : ℕ) (bs : List ℕ) (o : Outcome) : Type 0 where
+  pub refuses : (c : ℕ) → (o ≡ refused c) ↔ FirstFailure cs c
+  pub accepts : (o ≡ accepted n bs) ↔ AllPass cs
+  pub either : ((c : ℕ) × (o ≡ refused c)) ⊎ (o ≡ accepted n bs)
+
+never : {c n : ℕ} {bs : List ℕ} → refused c ≡ accepted n bs → ⊥
+never e = let z : _≡_ {A = ℕ} 0 1 = cc in omega arith
+
+refuses-first : (cs : List Check) (n : ℕ) (bs : List ℕ) (c : ℕ) → judged cs (accepted n bs) ≡ refused c → FirstFailure cs c
+unfolding judged
+refuses-first [] n bs c e = let z : _≡_ {A = ℕ} 0 1 = cc in absurd (omega arith)
+refuses-first (check d true ∷ cs) n bs c e = later (refuses-first cs n bs c e)
+refuses-first (check d false ∷ cs) n bs c e = let same : d ≡ c = cc in subst (FirstFailure (check d false ∷ cs)) same here
+
+-- Of an accepted call: every check passed, and count and bytes are those that the call gives.
+pub record Passed (cs : List Check) (n m : ℕ) (bs xs : List ℕ) : Type 0 where
+  pub checks : AllPass cs
+  pub sameCount : n ≡ m
+  pub sameBytes : bs ≡ xs
+
+pub passed : {m : ℕ} {xs : List ℕ} (cs : List Check) (n : ℕ) (bs : List ℕ) → judged cs (accepted n bs) ≡ accepted m xs → Passed cs n m bs xs
+unfolding judged
+passed [] n bs e = record { checks = none; sameCount = cc; sameBytes = cc }
+passed (check d true ∷ cs) n bs e =
+    let p : Passed cs n _ bs _ = passed cs n bs e in
+    record { checks = more (p .checks); sameCount = p .sameCount; sameBytes = p .sameBytes }
+passed (check d false ∷ cs) n bs e = absurd (never e)
+
+pub judges : (cs : List Check) (n : ℕ) (bs : List ℕ) → Judges cs n bs (judged cs (accepted n bs))
+judges cs n bs =
+    record
+    { refuses = λ c. (refuses-first cs n bs c, λ f. judged-first f (accepted n bs))
+    ; accepts = (λ e. passed cs n bs e .checks, λ p. judged-pass p (accepted n bs))
+    ; either = ⊎-map (λ f. (f .0, judged-first (f .1) (accepted n bs))) (λ p. judged-pass p (accepted n bs)) (first-or-all cs)
+    }
+
+-- Checks of a list taken apart.
+pub pass-head : {c : ℕ} {b : Bool} {cs : List Check} → AllPass (check c b ∷ cs) → b ≡ true
+pass-head (more p) = refl
+
+pub pass-tail : {k : Check} {cs : List Check} → AllPass (k ∷ cs) → AllPass cs
+pass-tail (more p) = p
+
+pub pass-left : (cs ds : List Check) → AllPass (cs ++ ds) → AllPass cs
+pass-left [] ds p = none
+pass-left (check c true ∷ cs) ds p = more (pass-left cs ds (pass-tail p))
+pass-left (check c false ∷ cs) ds p = elim p [ ]
+
+pub pass-right : (cs ds : List Check) → AllPass (cs ++ ds) → AllPass ds
+pass-right [] ds p = p
+pass-right (k ∷ cs) ds p = pass-right cs ds (pass-tail p)
+
+pub pass-append : {cs ds : List Check} → AllPass cs → AllPass ds → AllPass (cs ++ ds)
+pass-append none q = q
+pass-append (more p) q = more (pass-append p q)
+
+pub pass-check : {c : ℕ} {b : Bool} → b ≡ true → AllPass (check c b ∷ [])
+pass-check {c} {b} e = subst (λ (t : Bool). AllPass (check c t ∷ [])) (sym e) (more none)
+
+-- The program's enum: a count for its accepted case and a check's number times 2 ^ 32 for its refused one is the answer.
+pub answer-cased : {A : Type 0} (whenAccepted whenRefused : ℕ → A) (numberOf : A → ℕ) → ((n : ℕ) → numberOf (whenAccepted n) ≡ n)
+    → ((c : ℕ) → numberOf (whenRefused c) ≡ c * 2 ^ 32) → (o : Outcome) → numberOf (cased whenAccepted whenRefused o) ≡ answer o
+unfolding answer
+answer-cased a r f p q (refused c) = q c
+answer-cased a r f p q (accepted n bs) = p n
