@@ -9,7 +9,7 @@ use lib.ListN.{length, take, drop, length-append, length-drop, take-append-drop}
 use lib.Seq.{length-take-le, take-at, drop-at}
 use Rattle.clefia_spec.specs.Words.{xors, Below, none}
 use Rattle.clefia_spec.specs.DigitLaws.{below-append, below-take, below-drop, length-xors, xors-cancel, below-xors}
-use Rattle.planbook_spec.specs.Book.{number, count, iv, sheetHolds, recordCount, eachBody, sheetsHold, cbcEncrypt, cbcDecrypt, encryptBody, decryptBody}
+use Rattle.planbook_spec.specs.Book.{number, count, iv, sheetHolds, recordCount, eachBody, sheetsHold, asItIs, cbcEncrypt, cbcDecrypt, encryptBody, decryptBody}
 
 -- A row of n bytes.
 pub record Bytes (n : ℕ) (xs : List ℕ) : Type 0 where
@@ -97,3 +97,84 @@ module _ (E D : List ℕ → List ℕ) (block : BlockCipher E D) where
       let rest : List ℕ = cbcDecrypt D n (take 16 bs) (drop 16 bs) in
       rw (take-at (xors p x) rest 16 (y .size), drop-at (xors p x) rest 16 (y .size), xors-cancel p x, block .decrypted .back (take 16 bs) c, cbcDecrypt-back n (take 16 bs) (drop 16 bs) c (other-blocks n b))
       (take-append-drop 16 bs)
+
+  -- A chain of n blocks after p, both ways.
+  pub cbc-encrypted : (n : ℕ) (p : List ℕ) → Bytes 16 p → Undone (Bytes (16 * n)) (cbcEncrypt E n p) (cbcDecrypt D n p)
+  cbc-encrypted n p i = record { keeps = λ bs b. cbcEncrypt-keeps n p bs i b; back = λ bs b. cbcEncrypt-back n p bs i b }
+
+  pub cbc-decrypted : (n : ℕ) (p : List ℕ) → Bytes 16 p → Undone (Bytes (16 * n)) (cbcDecrypt D n p) (cbcEncrypt E n p)
+  cbc-decrypted n p i = record { keeps = λ bs b. cbcDecrypt-keeps n p bs i b; back = λ bs b. cbcDecrypt-back n p bs i b }
+
+-- ---- bodies
+
+-- Every entry of the contents has P.
+pub data Every (P : List ℕ → Type 0) : List (List ℕ) → Type 0 where
+  nothing : Every P []
+  both : {e : List ℕ} {es : List (List ℕ)} → P e → Every P es → Every P (e ∷ es)
+
+pub every-map : {P Q : List ℕ → Type 0} → ((e : List ℕ) → P e → Q e) → {es : List (List ℕ)} → Every P es → Every Q es
+every-map f nothing = nothing
+every-map f (both {e = e} p r) = both (f e p) (every-map f r)
+
+-- A coding f of the bodies that is followed by g comes to h, at the entry e; and f keeps the length of a body and its bytes below 256.
+pub record Through (f g h : List ℕ → List ℕ → List ℕ) (e : List ℕ) : Type 0 where
+  pub keeps : (x : List ℕ) → Bytes (16 * count e) x → Bytes (16 * count e) (f e x)
+  pub meets : (x : List ℕ) → Bytes (16 * count e) x → g e (f e x) ≡ h e x
+
+first-body : (e : List ℕ) (es : List (List ℕ)) {bs : List ℕ} → Bytes (16 * recordCount (e ∷ es)) bs → Bytes (16 * count e) (take (16 * count e) bs)
+unfolding recordCount
+first-body e es b = bytes-take (16 * count e) (16 * recordCount es) b (omega arith)
+
+other-bodies : (e : List ℕ) (es : List (List ℕ)) {bs : List ℕ} → Bytes (16 * recordCount (e ∷ es)) bs → Bytes (16 * recordCount es) (drop (16 * count e) bs)
+unfolding recordCount
+other-bodies e es b = bytes-drop (16 * count e) (16 * recordCount es) b (omega arith)
+
+-- No coding at all.
+pub each-asItIs : (es : List (List ℕ)) (bs : List ℕ) → Bytes (16 * recordCount es) bs → eachBody asItIs es bs ≡ bs
+unfolding eachBody recordCount
+each-asItIs [] bs b = empty bs b
+each-asItIs (e ∷ es) bs b =
+    rw (each-asItIs es (drop (16 * count e) bs) (other-bodies e es b)) (take-append-drop (16 * count e) bs)
+
+module _ {f g h : List ℕ → List ℕ → List ℕ} where
+  pub each-keeps : {es : List (List ℕ)} → Every (Through f g h) es → (bs : List ℕ) → Bytes (16 * recordCount es) bs
+      → Bytes (16 * recordCount es) (eachBody f es bs)
+  unfolding eachBody recordCount
+  each-keeps nothing bs b = record { size = refl; below = none }
+  each-keeps (both {e = e} {es = es} t r) bs b =
+      bytes-append (16 * count e) (16 * recordCount es) (t .keeps _ (first-body e es b)) (each-keeps r _ (other-bodies e es b)) (omega arith)
+
+  -- The first coded body and the others, cut apart again.
+  coded-first : (e : List ℕ) (es : List (List ℕ)) (bs : List ℕ) → Through f g h e → Bytes (16 * recordCount (e ∷ es)) bs
+      → take (16 * count e) (eachBody f (e ∷ es) bs) ≡ f e (take (16 * count e) bs)
+  unfolding eachBody
+  coded-first e es bs t b = take-at _ _ (16 * count e) (t .keeps _ (first-body e es b) .size)
+
+  coded-others : (e : List ℕ) (es : List (List ℕ)) (bs : List ℕ) → Through f g h e → Bytes (16 * recordCount (e ∷ es)) bs
+      → drop (16 * count e) (eachBody f (e ∷ es) bs) ≡ eachBody f es (drop (16 * count e) bs)
+  unfolding eachBody
+  coded-others e es bs t b = drop-at (f e (take (16 * count e) bs)) _ (16 * count e) (t .keeps _ (first-body e es b) .size)
+
+  pub each-through : {es : List (List ℕ)} → Every (Through f g h) es → (bs : List ℕ) → Bytes (16 * recordCount es) bs
+      → eachBody g es (eachBody f es bs) ≡ eachBody h es bs
+  unfolding eachBody
+  each-through nothing bs b = refl
+  each-through (both {e = e} {es = es} t r) bs b =
+      rw (coded-first e es bs t b, coded-others e es bs t b, t .meets _ (first-body e es b), each-through r _ (other-bodies e es b))
+
+  -- A rule of the records, looked at after g of the coded bodies, is the rule looked at after h.
+  pub sheets-through : {es : List (List ℕ)} → Every (Through f g h) es → (bs : List ℕ) → Bytes (16 * recordCount es) bs
+      → sheetsHold g es (eachBody f es bs) ≡ sheetsHold h es bs
+  unfolding sheetsHold
+  sheets-through nothing bs b = refl
+  sheets-through (both {e = e} {es = es} t r) bs b =
+      rw (coded-first e es bs t b, coded-others e es bs t b, t .meets _ (first-body e es b), sheets-through r _ (other-bodies e es b))
+
+module _ (E D : List ℕ → List ℕ) (block : BlockCipher E D) where
+  pub body-encrypted : (e : List ℕ) → Bytes 16 (iv e) → Through (encryptBody E) (decryptBody D) asItIs e
+  unfolding encryptBody decryptBody
+  body-encrypted e i = let u : Undone (Bytes (16 * count e)) _ _ = cbc-encrypted E D block (count e) (iv e) i in record { keeps = u .keeps; meets = u .back }
+
+  pub body-decrypted : (e : List ℕ) → Bytes 16 (iv e) → Through (decryptBody D) (encryptBody E) asItIs e
+  unfolding encryptBody decryptBody
+  body-decrypted e i = let u : Undone (Bytes (16 * count e)) _ _ = cbc-decrypted E D block (count e) (iv e) i in record { keeps = u .keeps; meets = u .back }
