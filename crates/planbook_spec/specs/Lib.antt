@@ -4,3 +4,4 @@ pub mod Checks
 pub mod Book
 pub mod OutcomeLaws
 pub mod Undoing
+pub mod BookLaws
