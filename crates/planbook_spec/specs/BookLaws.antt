@@ -96,7 +96,7 @@ shape mark (a ∷ b ∷ c ∷ d ∷ bs) r p =
     let first : a ≡ mark = eqb-true a mark (and-left _ _ (pass-head (pass-tail p))) in
     let n : ℕ = fromDigits 256 (c ∷ d ∷ []) in
     let size : suc (suc (suc (suc (length bs)))) ≡ 4 + 24 * n + 16 * recordCount (pieces 24 n bs) =
-      eqb-true _ _ (pass-head (pass-tail (pass-tail (pass-tail (pass-tail (pass-tail p)))))) in
+    eqb-true _ _ (pass-head (pass-tail (pass-tail (pass-tail (pass-tail (pass-tail p)))))) in
     subst (λ (x : ℕ). Shaped mark (x ∷ b ∷ c ∷ d ∷ bs)) (sym first)
     (shaped b c d (record { size = omega (arith, size); below = below-tail (below-tail (below-tail (below-tail r))) }))
 

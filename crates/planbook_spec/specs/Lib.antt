@@ -5,3 +5,5 @@ pub mod Book
 pub mod OutcomeLaws
 pub mod Undoing
 pub mod BookLaws
+pub mod CheckLaws
+pub mod BookCipher

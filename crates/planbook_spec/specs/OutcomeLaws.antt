@@ -71,10 +71,10 @@ passed (check d false ∷ cs) n bs e = absurd (never e)
 
 pub judges : (cs : List Check) (n : ℕ) (bs : List ℕ) → Judges cs n bs (judged cs (accepted n bs))
 judges cs n bs =
-    record
-    { refuses = λ c. (refuses-first cs n bs c, λ f. judged-first f (accepted n bs))
-    ; accepts = (λ e. passed cs n bs e .checks, λ p. judged-pass p (accepted n bs))
-    ; either = ⊎-map (λ f. (f .0, judged-first (f .1) (accepted n bs))) (λ p. judged-pass p (accepted n bs)) (first-or-all cs)
+    record {
+      refuses = λ c. (refuses-first cs n bs c, λ f. judged-first f (accepted n bs));
+      accepts = (λ e. passed cs n bs e .checks, λ p. judged-pass p (accepted n bs));
+      either = ⊎-map (λ f. (f .0, judged-first (f .1) (accepted n bs))) (λ p. judged-pass p (accepted n bs)) (first-or-all cs);
     }
 
 -- Checks of a list taken apart.
@@ -106,3 +106,11 @@ pub answer-cased : {A : Type 0} (whenAccepted whenRefused : ℕ → A) (numberOf
 unfolding answer
 answer-cased a r f p q (refused c) = q c
 answer-cased a r f p q (accepted n bs) = p n
+
+-- An accepted outcome: its answer is the count, and the output afterwards is its bytes.
+pub data Accepted : Outcome → Type 0 where
+  accepting : (n : ℕ) (bs : List ℕ) → Accepted (accepted n bs)
+
+pub accepted-is : {o : Outcome} → Accepted o → (out : List ℕ) → o ≡ accepted (answer o) (after out o)
+unfolding answer after
+accepted-is (accepting n bs) out = refl

@@ -1,0 +1,96 @@
+-- Books encrypted and decrypted by any block cipher: each call takes the other back, and two books encrypted alike are alike. The checks about key and
+-- way stay open here, a list cs that is passed; so the theorems serve a key as well as words that no key gives.
+use Prim.Native.Nat.{ℕ}
+use mathlib.Core.List.{List, [], _∷_, _++_}
+use mathlib.Core.Logic.{_↔_}
+use mathlib.Core.Path.{_≡_, refl, sym, ap, ap₂, _∙_}
+use lib.ListN.{length}
+use Rattle.clefia_spec.specs.Words.{Below}
+use Rattle.planbook_spec.specs.Outcome.{Outcome, accepted, Check, judged}
+use Rattle.planbook_spec.specs.OutcomeLaws.{AllPass, pass-left, pass-right, pass-tail, pass-append, judged-pass, Passed, passed}
+use Rattle.planbook_spec.specs.CheckLaws.{output-passes}
+use Rattle.planbook_spec.specs.Checks.{outputCheck}
+use Rattle.planbook_spec.specs.Book.{iv, contents, recordCount, formChecks, recordsCheck, asItIs, encryptBody, decryptBody, recoded, bookChecks, encryptBookBy, decryptBookBy}
+use Rattle.planbook_spec.specs.Undoing.{Bytes, BlockCipher, bytes-take, bytes-drop, Every, every-map, Through, body-encrypted, body-decrypted}
+use Rattle.planbook_spec.specs.BookLaws.{Shaped, shape, shaped-entries, recoded-length, recoded-contents, recoded-form, recoded-records, recoded-through, recoded-asItIs}
+
+-- The checks of form and records are among a book's checks.
+book-form : (cs : List Check) (mark : ℕ) (f : List ℕ → List ℕ → List ℕ) (book out : List ℕ) → AllPass (bookChecks cs mark f book out)
+    → AllPass (formChecks mark book ++ (recordsCheck f book ∷ []))
+unfolding bookChecks
+book-form cs mark f book out p = pass-tail (pass-right cs _ p)
+
+-- A book that one call accepts has its shape.
+book-shape : (cs : List Check) (mark : ℕ) (f : List ℕ → List ℕ → List ℕ) (book out : List ℕ) → Below 256 book → AllPass (bookChecks cs mark f book out)
+    → Shaped mark book
+book-shape cs mark f book out r p = shape mark book r (pass-left (formChecks mark book) _ (book-form cs mark f book out p))
+
+-- One call codes by f and looks at the records after h. The other codes by k and looks at them after g. Where g after f is h, and k after f is nothing,
+-- the other call accepts what the one has made, and gives the book back.
+module _ {f g h k : List ℕ → List ℕ → List ℕ} (mark mark′ : ℕ) (cs cs′ : List Check) (book out out′ : List ℕ) where
+  comes-back : Below 256 book
+      → AllPass (bookChecks cs mark h book out)
+      → Every (Through f g h) (contents book)
+      → Every (Through f k asItIs) (contents book)
+      → AllPass cs′
+      → length out′ ≡ length book
+      → judged (bookChecks cs′ mark′ g (recoded mark′ f book) out′)
+      (accepted (recordCount (contents (recoded mark′ f book))) (recoded mark k (recoded mark′ f book)))
+      ≡ accepted (recordCount (contents book)) book
+  unfolding bookChecks
+  comes-back r p t u q e =
+      let s : Shaped mark book = book-shape cs mark h book out r p in
+      let again : AllPass (formChecks mark′ (recoded mark′ f book) ++ (recordsCheck g (recoded mark′ f book) ∷ [])) =
+      rw (recoded-form mark mark′ s t, recoded-records mark mark′ s t) (book-form cs mark h book out p) in
+      judged-pass (pass-append q (pass-append (output-passes _ out′ (e ∙ sym (recoded-length mark mark′ s t))) again)) _
+      ∙ ap₂ accepted (ap recordCount (recoded-contents mark mark′ s t)) (recoded-through mark mark′ s u ∙ recoded-asItIs s)
+
+iv-bytes : (e : List ℕ) → Bytes 24 e → Bytes 16 (iv e)
+iv-bytes e b = bytes-take 16 0 (bytes-drop 8 16 b refl) refl
+
+module _ (E D : List ℕ → List ℕ) (block : BlockCipher E D) where
+  entries-encrypted : {mark : ℕ} {book : List ℕ} → Shaped mark book → Every (Through (encryptBody E) (decryptBody D) asItIs) (contents book)
+  entries-encrypted s = every-map (λ e b. body-encrypted E D block e (iv-bytes e b)) (shaped-entries s)
+
+  entries-decrypted : {mark : ℕ} {book : List ℕ} → Shaped mark book → Every (Through (decryptBody D) (encryptBody E) asItIs) (contents book)
+  entries-decrypted s = every-map (λ e b. body-decrypted E D block e (iv-bytes e b)) (shaped-entries s)
+
+  -- Decrypted, and then looked at as it is.
+  entries-opened : {mark : ℕ} {book : List ℕ} → Shaped mark book → Every (Through (decryptBody D) asItIs (decryptBody D)) (contents book)
+  entries-opened s = every-map (λ e t. record { keeps = t .keeps; meets = λ x b. refl }) (entries-decrypted s)
+
+  pub encrypted-decrypts : (cs cs′ : List Check) (book out out′ : List ℕ) {n : ℕ} {bs : List ℕ} → Below 256 book
+      → encryptBookBy cs E book out ≡ accepted n bs → AllPass cs′ → length out′ ≡ length book → decryptBookBy cs′ D bs out′ ≡ accepted n book
+  unfolding encryptBookBy decryptBookBy
+  encrypted-decrypts cs cs′ book out out′ {n} {bs} r a q e =
+      let p : Passed (bookChecks cs 1 asItIs book out) _ n _ bs = passed _ _ _ a in
+      let s : Shaped 1 book = book-shape cs 1 asItIs book out r (p .checks) in
+      rw (← p .sameBytes, ← p .sameCount) (comes-back 1 2 cs cs′ book out out′ r (p .checks) (entries-encrypted s) (entries-encrypted s) q e)
+
+  pub decrypted-encrypts : (cs cs′ : List Check) (book out out′ : List ℕ) {n : ℕ} {bs : List ℕ} → Below 256 book
+      → decryptBookBy cs D book out ≡ accepted n bs → AllPass cs′ → length out′ ≡ length book → encryptBookBy cs′ E bs out′ ≡ accepted n book
+  unfolding encryptBookBy decryptBookBy
+  decrypted-encrypts cs cs′ book out out′ {n} {bs} r a q e =
+      let p : Passed (bookChecks cs 2 (decryptBody D) book out) _ n _ bs = passed _ _ _ a in
+      let s : Shaped 2 book = book-shape cs 2 (decryptBody D) book out r (p .checks) in
+      rw (← p .sameBytes, ← p .sameCount) (comes-back 2 1 cs cs′ book out out′ r (p .checks) (entries-opened s) (entries-decrypted s) q e)
+
+  -- What an accepted call gives is the recoded book.
+  pub encrypted-is : (cs : List Check) (book out : List ℕ) {n : ℕ} {bs : List ℕ} → encryptBookBy cs E book out ≡ accepted n bs → bs ≡ recoded 2 (encryptBody E) book
+  unfolding encryptBookBy
+  encrypted-is cs book out a = sym (passed _ _ _ a .sameBytes)
+
+  -- The clear book can be read off the encrypted one, whichever checks about key and way were passed.
+  pub encrypted-alike : (cs cs′ : List Check) (a b out out′ : List ℕ) {m n : ℕ} {x y : List ℕ} → Below 256 a → Below 256 b
+      → encryptBookBy cs E a out ≡ accepted m x → encryptBookBy cs′ E b out′ ≡ accepted n y → (x ≡ y) ↔ (a ≡ b)
+  unfolding encryptBookBy
+  encrypted-alike cs cs′ a b out out′ {m} {n} {x} {y} ra rb pa pb =
+      let p : Passed (bookChecks cs 1 asItIs a out) _ m _ x = passed _ _ _ pa in
+      let q : Passed (bookChecks cs′ 1 asItIs b out′) _ n _ y = passed _ _ _ pb in
+      let s : Shaped 1 a = book-shape cs 1 asItIs a out ra (p .checks) in
+      let t : Shaped 1 b = book-shape cs′ 1 asItIs b out′ rb (q .checks) in
+      let fromX : recoded 1 (decryptBody D) x ≡ a =
+      ap (recoded 1 (decryptBody D)) (sym (p .sameBytes)) ∙ recoded-through 1 2 s (entries-encrypted s) ∙ recoded-asItIs s in
+      let fromY : recoded 1 (decryptBody D) y ≡ b =
+      ap (recoded 1 (decryptBody D)) (sym (q .sameBytes)) ∙ recoded-through 1 2 t (entries-encrypted t) ∙ recoded-asItIs t in
+      (λ e. sym fromX ∙ ap (recoded 1 (decryptBody D)) e ∙ fromY, λ e. sym (p .sameBytes) ∙ ap (recoded 2 (encryptBody E)) e ∙ q .sameBytes)

@@ -1,0 +1,57 @@
+-- What checks 1 to 4 permit.
+use Prim.Native.Nat.{ℕ}
+use mathlib.Core.Bool.{Bool, true, false, _||_}
+use mathlib.Core.List.{List, [], _∷_, _++_}
+use mathlib.Core.Path.{_≡_, refl, sym, subst, _∙_}
+use borrow.Author.Tests.{eqb-true, eq-eqb}
+use lib.Dec.{eqb}
+use lib.ListN.{length}
+use Rattle.clefia_spec.specs.Words.{KeyLength, sixteen, twentyFour, thirtyTwo}
+use Rattle.planbook_spec.specs.Outcome.{Check, check}
+use Rattle.planbook_spec.specs.OutcomeLaws.{AllPass, none, more, pass-head, pass-tail, pass-append, pass-check}
+use Rattle.planbook_spec.specs.Checks.{keyCheck, wayCheck, outputCheck, keyAndWay}
+
+-- The three ways.
+pub data Way : ℕ → Type 0 where
+  one : Way 1
+  two : Way 2
+  three : Way 3
+
+-- One of three tests passed.
+oneOfThree : (P : ℕ → Type 0) (n a b c : ℕ) → P a → P b → P c → eqb n a || eqb n b || eqb n c ≡ true → P n
+oneOfThree P n a b c pa pb pc = go (eqb n a) (eqb n b) (eqb n c) refl refl refl
+  where
+    at : (x : ℕ) → P x → eqb n x ≡ true → P n
+    at x p e = subst P (sym (eqb-true n x e)) p
+
+    go : (x y z : Bool) → eqb n a ≡ x → eqb n b ≡ y → eqb n c ≡ z → x || y || z ≡ true → P n
+    go true y z ea eb ec t = at a pa ea
+    go false true z ea eb ec t = at b pb eb
+    go false false z ea eb ec t = at c pc (ec ∙ t)
+
+pub key-permitted : {n : ℕ} {cs : List Check} → AllPass (keyCheck n ∷ cs) → KeyLength n
+unfolding keyCheck
+key-permitted {n} p = oneOfThree KeyLength n 16 24 32 sixteen twentyFour thirtyTwo (pass-head p)
+
+pub way-permitted : {w : ℕ} {cs : List Check} → AllPass (wayCheck w ∷ cs) → Way w
+unfolding wayCheck
+way-permitted {w} p = oneOfThree Way w 1 2 3 one two three (pass-head p)
+
+pub key-passes : {n : ℕ} → KeyLength n → AllPass (keyCheck n ∷ [])
+unfolding keyCheck
+key-passes sixteen = more none
+key-passes twentyFour = more none
+key-passes thirtyTwo = more none
+
+pub way-passes : {w : ℕ} → Way w → AllPass (wayCheck w ∷ [])
+unfolding wayCheck
+way-passes one = more none
+way-passes two = more none
+way-passes three = more none
+
+pub output-passes : (n : ℕ) (out : List ℕ) → length out ≡ n → AllPass (outputCheck n out ∷ [])
+unfolding outputCheck
+output-passes n out e = pass-check (eq-eqb (length out) n e)
+
+pub keyAndWay-passes : (key : List ℕ) {w : ℕ} → KeyLength (length key) → Way w → AllPass (keyAndWay key w)
+keyAndWay-passes key k w = pass-append (key-passes k) (way-passes w)
