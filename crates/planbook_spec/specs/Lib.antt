@@ -7,3 +7,4 @@ pub mod Undoing
 pub mod BookLaws
 pub mod CheckLaws
 pub mod BookCipher
+pub mod Demands

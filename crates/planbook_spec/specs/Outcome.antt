@@ -23,13 +23,6 @@ pub record Answers (o : Outcome) (out : List ℕ) (r : ℕ) (exit : List ℕ) : 
   pub number : r ≡ answer o
   pub output : exit ≡ after out o
 
--- The program's own answer is an enum with a case for an accepted call, which holds the count, and one for a refused call, which holds the check's
--- number. This says which case an outcome has; the enum stands in the crate of the calls, so its constructors are parameters here. (The law
--- answer-cased: giving the first case its count and the second its number times 2 ^ 32 gives the outcome's answer.)
-abbrev pub cased {ℓ} : {A : Type ℓ} → (ℕ → A) → (ℕ → A) → Outcome → A
-cased whenAccepted whenRefused (refused c) = whenRefused c
-cased whenAccepted whenRefused (accepted n bs) = whenAccepted n
-
 -- A check is its number and whether it is passed.
 pub data Check : Type 0 where
   check : ℕ → Bool → Check

@@ -1,12 +1,12 @@
 -- Laws of outcomes. The first demand rests on one of them: a list of checks refuses under c exactly where c is the first that fails, and accepts exactly
 -- where all are passed.
-use Prim.Native.Nat.{ℕ, _+_, _*_, _^_}
+use Prim.Native.Nat.{ℕ, _*_, _^_}
 use mathlib.Core.Bool.{Bool, true, false}
 use mathlib.Core.List.{List, [], _∷_, _++_}
 use mathlib.Core.Logic.{_↔_, _⊎_, inl, inr, ⊎-map}
-use mathlib.Core.Path.{_≡_, refl, sym, subst}
+use mathlib.Core.Path.{_≡_, refl, sym, ap, subst}
 use native.Mathlib.Omega.{arith}
-use Rattle.planbook_spec.specs.Outcome.{Outcome, refused, accepted, answer, after, cased, Check, check, judged}
+use Rattle.planbook_spec.specs.Outcome.{Outcome, refused, accepted, answer, after, Check, check, judged}
 
 -- c is the number of the first check that fails.
 pub data FirstFailure : List Check → ℕ → Type 0 where
@@ -100,13 +100,6 @@ pass-append (more p) q = more (pass-append p q)
 pub pass-check : {c : ℕ} {b : Bool} → b ≡ true → AllPass (check c b ∷ [])
 pass-check {c} {b} e = subst (λ (t : Bool). AllPass (check c t ∷ [])) (sym e) (more none)
 
--- The program's enum: a count for its accepted case and a check's number times 2 ^ 32 for its refused one is the answer.
-pub answer-cased : {A : Type 0} (whenAccepted whenRefused : ℕ → A) (numberOf : A → ℕ) → ((n : ℕ) → numberOf (whenAccepted n) ≡ n)
-    → ((c : ℕ) → numberOf (whenRefused c) ≡ c * 2 ^ 32) → (o : Outcome) → numberOf (cased whenAccepted whenRefused o) ≡ answer o
-unfolding answer
-answer-cased a r f p q (refused c) = q c
-answer-cased a r f p q (accepted n bs) = p n
-
 -- An accepted outcome: its answer is the count, and the output afterwards is its bytes.
 pub data Accepted : Outcome → Type 0 where
   accepting : (n : ℕ) (bs : List ℕ) → Accepted (accepted n bs)
@@ -114,3 +107,12 @@ pub data Accepted : Outcome → Type 0 where
 pub accepted-is : {o : Outcome} → Accepted o → (out : List ℕ) → o ≡ accepted (answer o) (after out o)
 unfolding answer after
 accepted-is (accepting n bs) out = refl
+
+-- A refused one: its answer is the check's number and a count of 0, and the output keeps its bytes.
+pub record Refused (c : ℕ) (out : List ℕ) (o : Outcome) : Type 0 where
+  pub number : answer o ≡ c * 2 ^ 32
+  pub untouched : after out o ≡ out
+
+pub refused-is : {o : Outcome} {c : ℕ} (out : List ℕ) → o ≡ refused c → Refused c out o
+unfolding answer after
+refused-is out e = record { number = ap answer e; untouched = ap (after out) e }

@@ -1,0 +1,115 @@
+-- The three demands, of what the calls answer. A call's contract says that its number and its output are those of the outcome named here, so these
+-- theorems hold of the program. Keys, books and blocks are rows of bytes: Below 256.
+use Prim.Native.Nat.{ℕ, _*_, _^_}
+use mathlib.Core.List.{List, [], _∷_, _++_}
+use mathlib.Core.Logic.{_↔_}
+use mathlib.Core.Path.{_≡_, refl, sym, ap, _∙_}
+use lib.ListN.{length}
+use Rattle.clefia_spec.specs.Words.{bytesOf, KeyLength, Below}
+use Rattle.clefia_spec.specs.Constants.{constants}
+use Rattle.clefia_spec.specs.KeySchedule.{expandKey}
+use Rattle.clefia_spec.specs.Block.{encryptUnder, decryptUnder, encrypt, decrypt}
+use Rattle.clefia_spec.specs.BlockLaws.{Block, Undoes, decrypt-undoes-encrypt, encrypt-undoes-decrypt, decrypt-undoes-encrypt-under, encrypt-undoes-decrypt-under}
+use Rattle.planbook_spec.specs.Outcome.{Outcome, refused, accepted, answer, after, Check, judged}
+use Rattle.planbook_spec.specs.OutcomeLaws.{AllPass, pass-left, Passed, passed, Accepted, accepted-is, Judges, judges}
+use Rattle.planbook_spec.specs.Checks.{keyCheck, outputCheck, keyAndWay, constantCount, expandedCount, constantsCall, expandKeyCall, blockChecks, encryptBlockCall, decryptBlockCall}
+use Rattle.planbook_spec.specs.CheckLaws.{Way, key-permitted, keyAndWay-passes}
+use Rattle.planbook_spec.specs.Book.{contents, recordCount, asItIs, encryptBody, decryptBody, recoded, bookChecks, encryptBookBy, decryptBookBy, sealedBook, openedBook, encryptBookCall, decryptBookCall}
+use Rattle.planbook_spec.specs.Undoing.{Bytes, Undone, BlockCipher}
+use Rattle.planbook_spec.specs.BookCipher.{encrypted-decrypts, decrypted-encrypts, encrypted-is, encrypted-alike}
+
+-- ---- demand 1: each call is refused under c exactly where c is the first of its checks that fails, and else it is accepted, with the count and the
+-- bytes named here. (OutcomeLaws: what a refusal answers, and that it leaves the output as it was.)
+
+pub demand1-constants : (keyLength : ℕ) (out : List ℕ)
+    → Judges (keyCheck keyLength ∷ outputCheck (4 * constantCount keyLength) out ∷ []) (constantCount keyLength) (bytesOf (constants keyLength)) (constantsCall keyLength out)
+unfolding constantsCall
+demand1-constants keyLength out = judges _ _ _
+
+pub demand1-expandKey : (key : List ℕ) (way : ℕ) (out : List ℕ)
+    → Judges (keyAndWay key way ++ (outputCheck (4 * expandedCount (length key)) out ∷ [])) (expandedCount (length key)) (bytesOf (expandKey key)) (expandKeyCall key way out)
+unfolding expandKeyCall
+demand1-expandKey key way out = judges _ _ _
+
+pub demand1-encryptBlock : (key : List ℕ) (way : ℕ) (block out : List ℕ) → Judges (blockChecks key way block out) 1 (encrypt key block) (encryptBlockCall key way block out)
+unfolding encryptBlockCall
+demand1-encryptBlock key way block out = judges _ _ _
+
+pub demand1-decryptBlock : (key : List ℕ) (way : ℕ) (block out : List ℕ) → Judges (blockChecks key way block out) 1 (decrypt key block) (decryptBlockCall key way block out)
+unfolding decryptBlockCall
+demand1-decryptBlock key way block out = judges _ _ _
+
+pub demand1-encryptBook : (key : List ℕ) (way : ℕ) (book out : List ℕ)
+    → Judges (bookChecks (keyAndWay key way) 1 asItIs book out) (recordCount (contents book)) (sealedBook key book) (encryptBookCall key way book out)
+unfolding encryptBookCall encryptBookBy sealedBook
+demand1-encryptBook key way book out = judges _ _ _
+
+pub demand1-decryptBook : (key : List ℕ) (way : ℕ) (book out : List ℕ)
+    → Judges (bookChecks (keyAndWay key way) 2 (decryptBody (decrypt key)) book out) (recordCount (contents book)) (openedBook key book) (decryptBookCall key way book out)
+unfolding decryptBookCall decryptBookBy openedBook
+demand1-decryptBook key way book out = judges _ _ _
+
+-- ---- the cipher: CLEFIA under any words, and under a key
+
+undone : {f g : List ℕ → List ℕ} → Undoes g f → Undone (Bytes 16) f g
+undone u =
+    record {
+      keeps = λ x b. let y : Block _ = u .block x (record { long = b .size; below = b .below }) in record { size = y .long; below = y .below };
+      back = λ x b. u .undone x (record { long = b .size; below = b .below });
+    }
+
+pub cipherUnder : {w : List ℕ} → Below (2 ^ 32) w → BlockCipher (encryptUnder w) (decryptUnder w)
+cipherUnder h = record { encrypted = undone (decrypt-undoes-encrypt-under h); decrypted = undone (encrypt-undoes-decrypt-under h) }
+
+pub cipher : {key : List ℕ} → KeyLength (length key) → Below 256 key → BlockCipher (encrypt key) (decrypt key)
+cipher k h = record { encrypted = undone (decrypt-undoes-encrypt k h); decrypted = undone (encrypt-undoes-decrypt k h) }
+
+-- A key with which a call was accepted has a permitted length.
+sealing-key : (key : List ℕ) (way : ℕ) (book out : List ℕ) {n : ℕ} {bs : List ℕ} → encryptBookCall key way book out ≡ accepted n bs → KeyLength (length key)
+unfolding encryptBookCall encryptBookBy bookChecks
+sealing-key key way book out a = key-permitted (passed _ _ _ a .checks)
+
+opening-key : (key : List ℕ) (way : ℕ) (book out : List ℕ) {n : ℕ} {bs : List ℕ} → decryptBookCall key way book out ≡ accepted n bs → KeyLength (length key)
+unfolding decryptBookCall decryptBookBy bookChecks
+opening-key key way book out a = key-permitted (passed _ _ _ a .checks)
+
+-- ---- demand 2: under one key, what one call has made the other takes back, by any of the ways each time. (That blocks, keys and chains are those of
+-- CLEFIA and of CBC is in the definitions that the outcomes name.)
+
+module _ (key : List ℕ) (bytes : Below 256 key) (way way′ : ℕ) (permitted : Way way′) where
+  -- A sealed book opens to the clear book.
+  pub demand2-opens : (book out out′ : List ℕ) {n : ℕ} {sealed : List ℕ} → Below 256 book → encryptBookCall key way book out ≡ accepted n sealed
+      → length out′ ≡ length book → decryptBookCall key way′ sealed out′ ≡ accepted n book
+  unfolding encryptBookCall decryptBookCall
+  demand2-opens book out out′ r a e =
+      let k : KeyLength (length key) = sealing-key key way book out a in
+      encrypted-decrypts (encrypt key) (decrypt key) (cipher k bytes) (keyAndWay key way) (keyAndWay key way′) book out out′ r a (keyAndWay-passes key k permitted) e
+
+  -- An opened book seals to the same sealed bytes.
+  pub demand2-seals : (book out out′ : List ℕ) {n : ℕ} {opened : List ℕ} → Below 256 book → decryptBookCall key way book out ≡ accepted n opened
+      → length out′ ≡ length book → encryptBookCall key way′ opened out′ ≡ accepted n book
+  unfolding encryptBookCall decryptBookCall
+  demand2-seals book out out′ r a e =
+      let k : KeyLength (length key) = opening-key key way book out a in
+      decrypted-encrypts (encrypt key) (decrypt key) (cipher k bytes) (keyAndWay key way) (keyAndWay key way′) book out out′ r a (keyAndWay-passes key k permitted) e
+
+-- ---- demand 3: of two clear books a and b that sealing accepts under one key, each by whichever way. A sealed book is the whole lent output afterwards.
+
+pub record SealedAlike (key a b x y : List ℕ) : Type 0 where
+  pub alike : (x ≡ y) ↔ (a ≡ b)
+  pub first : x ≡ sealedBook key a
+  pub second : y ≡ sealedBook key b
+
+pub demand3 : (key : List ℕ) → Below 256 key → (way way′ : ℕ) (a b out out′ : List ℕ) → Below 256 a → Below 256 b
+    → Accepted (encryptBookCall key way a out) → Accepted (encryptBookCall key way′ b out′)
+    → SealedAlike key a b (after out (encryptBookCall key way a out)) (after out′ (encryptBookCall key way′ b out′))
+unfolding encryptBookCall sealedBook
+demand3 key bytes way way′ a b out out′ ra rb pa pb =
+    let ea : encryptBookCall key way a out ≡ accepted _ (after out (encryptBookCall key way a out)) = accepted-is pa out in
+    let eb : encryptBookCall key way′ b out′ ≡ accepted _ (after out′ (encryptBookCall key way′ b out′)) = accepted-is pb out′ in
+    let c : BlockCipher (encrypt key) (decrypt key) = cipher (sealing-key key way a out ea) bytes in
+    record {
+      alike = encrypted-alike (encrypt key) (decrypt key) c (keyAndWay key way) (keyAndWay key way′) a b out out′ ra rb ea eb;
+      first = encrypted-is (encrypt key) (decrypt key) c (keyAndWay key way) a out ea;
+      second = encrypted-is (encrypt key) (decrypt key) c (keyAndWay key way′) b out′ eb;
+    }
