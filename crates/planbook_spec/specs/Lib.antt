@@ -8,3 +8,4 @@ pub mod BookLaws
 pub mod CheckLaws
 pub mod BookCipher
 pub mod Demands
+pub mod WalkLaws

@@ -116,3 +116,12 @@ pub record Refused (c : ℕ) (out : List ℕ) (o : Outcome) : Type 0 where
 pub refused-is : {o : Outcome} {c : ℕ} (out : List ℕ) → o ≡ refused c → Refused c out o
 unfolding answer after
 refused-is out e = record { number = ap answer e; untouched = ap (after out) e }
+
+-- One check at the head of a list, of which it is known whether it is passed.
+pub judged-true : {b : Bool} → b ≡ true → (c : ℕ) (cs : List Check) (o : Outcome) → judged (check c b ∷ cs) o ≡ judged cs o
+unfolding judged
+judged-true e c cs o = ap (λ (t : Bool). judged (check c t ∷ cs) o) e
+
+pub judged-false : {b : Bool} → b ≡ false → (c : ℕ) (cs : List Check) (o : Outcome) → judged (check c b ∷ cs) o ≡ refused c
+unfolding judged
+judged-false e c cs o = ap (λ (t : Bool). judged (check c t ∷ cs) o) e
