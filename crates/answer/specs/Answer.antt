@@ -1,7 +1,8 @@
 -- What each case of the program's answer means: the number of document 01, and the outcome that it stands for.
 use Prim.Native.Nat.{ℕ, _*_, _^_}
-use mathlib.Core.Path.{_≡_, refl}
-use Rattle.planbook_spec.specs.Outcome.{Outcome, refused, accepted, answer}
+use mathlib.Core.List.{List}
+use mathlib.Core.Path.{_≡_, refl, ap, _∙_}
+use Rattle.planbook_spec.specs.Outcome.{Outcome, refused, accepted, answer, after, Answers}
 use Rattle.answer.specs.declared.Answer.{Answer}
 use Rattle.answer.specs.declared.Answer.the-variants.{Accepted, Refused}
 
@@ -19,3 +20,12 @@ pub number-answerOf : (o : Outcome) → numberOf (answerOf o) ≡ answer o
 unfolding answer
 number-answerOf (refused c) = refl
 number-answerOf (accepted n bs) = refl
+
+-- What a call's contract states of its answer r and of the lent output at exit, both by equation, for any outcome.
+pub record Given (o : Outcome) (out : List ℕ) (r : Answer) (exit : List ℕ) : Type 0 where
+  pub case : r ≡ answerOf o
+  pub output : exit ≡ after out o
+
+-- The same with the number in place of the case: what the border to C states.
+pub answers : {o : Outcome} {out : List ℕ} {r : Answer} {exit : List ℕ} {n : ℕ} → Given o out r exit → n ≡ numberOf r → Answers o out n exit
+answers {o} g e = record { number = e ∙ ap numberOf (g .case) ∙ number-answerOf o; output = g .output }
