@@ -3,18 +3,18 @@
 use Prim.Native.Nat.{ℕ, _*_, _^_}
 use mathlib.Core.List.{List, [], _∷_, _++_}
 use mathlib.Core.Logic.{_↔_}
-use mathlib.Core.Path.{_≡_, refl, sym, ap, _∙_}
+use mathlib.Core.Path.{_≡_}
 use lib.ListN.{length}
-use Rattle.clefia_spec.specs.Words.{bytesOf, KeyLength, Below}
+use Rattle.clefia_spec.specs.Words.{fromDigits, bytesOf, KeyLength, Below}
 use Rattle.clefia_spec.specs.Constants.{constants}
 use Rattle.clefia_spec.specs.KeySchedule.{expandKey}
 use Rattle.clefia_spec.specs.Block.{encryptUnder, decryptUnder, encrypt, decrypt}
 use Rattle.clefia_spec.specs.BlockLaws.{Block, Undoes, decrypt-undoes-encrypt, encrypt-undoes-decrypt, decrypt-undoes-encrypt-under, encrypt-undoes-decrypt-under}
-use Rattle.planbook_spec.specs.Outcome.{Outcome, refused, accepted, answer, after, Check, judged}
-use Rattle.planbook_spec.specs.OutcomeLaws.{AllPass, pass-left, Passed, passed, Accepted, accepted-is, Judges, judges}
+use Rattle.planbook_spec.specs.Outcome.{accepted, after}
+use Rattle.planbook_spec.specs.OutcomeLaws.{none, more, pass-append, judged-pass, passed, Accepted, accepted-is, Judges, judges}
 use Rattle.planbook_spec.specs.Checks.{keyCheck, outputCheck, keyAndWay, constantCount, expandedCount, constantsCall, expandKeyCall, blockChecks, encryptBlockCall, decryptBlockCall}
-use Rattle.planbook_spec.specs.CheckLaws.{Way, key-permitted, keyAndWay-passes}
-use Rattle.planbook_spec.specs.Book.{contents, recordCount, asItIs, encryptBody, decryptBody, recoded, bookChecks, encryptBookBy, decryptBookBy, sealedBook, openedBook, encryptBookCall, decryptBookCall}
+use Rattle.planbook_spec.specs.CheckLaws.{Way, key-permitted, output-passes, keyAndWay-passes}
+use Rattle.planbook_spec.specs.Book.{number, pieces, entriesHold, contents, recordCount, formChecks, eachBody, sheetsHold, recordsCheck, asItIs, decryptBody, recoded, bookChecks, encryptBookBy, decryptBookBy, sealedBook, openedBook, encryptBookCall, decryptBookCall}
 use Rattle.planbook_spec.specs.Undoing.{Bytes, Undone, BlockCipher}
 use Rattle.planbook_spec.specs.BookCipher.{encrypted-decrypts, decrypted-encrypts, encrypted-is, encrypted-alike}
 
@@ -113,3 +113,10 @@ demand3 key bytes way way′ a b out out′ ra rb pa pb =
       first = encrypted-is (encrypt key) (decrypt key) c (keyAndWay key way) a out ea;
       second = encrypted-is (encrypt key) (decrypt key) c (keyAndWay key way′) b out′ eb;
     }
+
+-- The empty book, under any key and by any way: it is sealed to its head with another first byte, with the count 0.
+pub empty-book : (key out : List ℕ) {way : ℕ} → KeyLength (length key) → Way way → length out ≡ 4
+    → encryptBookCall key way (1 ∷ 0 ∷ 0 ∷ 0 ∷ []) out ≡ accepted 0 (2 ∷ 0 ∷ 0 ∷ 0 ∷ [])
+unfolding fromDigits number pieces entriesHold recordCount formChecks eachBody sheetsHold recordsCheck recoded bookChecks encryptBookBy encryptBookCall
+empty-book key out k w e =
+    judged-pass (pass-append (keyAndWay-passes key k w) (pass-append (output-passes 4 out e) (more (more (more (more (more (more (more none))))))))) _

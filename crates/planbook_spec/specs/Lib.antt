@@ -9,3 +9,4 @@ pub mod CheckLaws
 pub mod BookCipher
 pub mod Demands
 pub mod WalkLaws
+pub mod EdgeCases

@@ -1,7 +1,7 @@
 -- The cases that document 01 marks to be shown of the definitions: input and value of each, in one list.
 use mathlib.Core.List.{List, [], _∷_}
 use mathlib.Core.Path.{refl}
-use lib.ListN.{take}
+use lib.ListN.{take, replicate}
 use Rattle.clefia_spec.specs.Words.{complement, rotate, fromDigits, toDigits, digitsOf, numbersOf}
 use Rattle.clefia_spec.specs.Constants.{divideByZ, evenConstant, oddConstant, constantsFrom, firstT, constants}
 use Rattle.clefia_spec.specs.Field.{double, double8, addProduct, product, squares, inverse}
@@ -10,6 +10,13 @@ use Rattle.clefia_spec.specs.FFunction.{m0, m1, entry, rowTimes, matrixTimes, s
 use Rattle.clefia_spec.specs.Network.{feistel, rotateBranches, rounds}
 use Rattle.clefia_spec.specs.KeySchedule.{bitRange, doubleSwapBits, doubleSwap}
 use Rattle.clefia_spec.specs.Cases.{Case, _gives_, AllHold, done, _and_}
+use Rattle.planbook_spec.specs.Outcome.{Outcome, answer, after, judged}
+use Rattle.planbook_spec.specs.Checks.{keyCheck, wayCheck, outputCheck}
+use Rattle.planbook_spec.specs.Book.{number, pieces, entriesHold, recordCount, formChecks, eachBody, sheetsHold, recordsCheck, recoded, bookChecks, encryptBookBy, encryptBookCall}
+
+-- The empty book, sealed by way 1 under a key of 16 zero bytes.
+abbrev pub emptySealed : Outcome
+emptySealed = encryptBookCall (replicate 16 0) 1 (0x01 ∷ 0x00 ∷ 0x00 ∷ 0x00 ∷ []) (replicate 4 0)
 
 pub markedCases : List Case
 markedCases =
@@ -26,8 +33,10 @@ markedCases =
     -- bit 0 goes to bit 64, and bit 127 to bit 63
     ∷ (doubleSwap (0x80000000 ∷ 0 ∷ 0 ∷ 0 ∷ []) gives 0 ∷ 0 ∷ 0x80000000 ∷ 0 ∷ [])
     ∷ (doubleSwap (0 ∷ 0 ∷ 0 ∷ 1 ∷ []) gives 0 ∷ 1 ∷ 0 ∷ 0 ∷ [])
+    -- the empty book: the number that C receives, which is check 0 and count 0, and then the bytes
+    ∷ (answer emptySealed ∷ after (replicate 4 0) emptySealed gives 0 ∷ 2 ∷ 0 ∷ 0 ∷ 0 ∷ [])
     ∷ []
 
 pub markedCases-hold : AllHold markedCases
-unfolding markedCases complement rotate fromDigits toDigits digitsOf numbersOf divideByZ evenConstant oddConstant constantsFrom firstT constants double addProduct product squares inverse ss0 ss1 ss2 ss3 s0 s1 bitOf sumOfBits affine fRows gRows m0 m1 entry rowTimes matrixTimes substitute f0 f1 feistel rotateBranches rounds bitRange doubleSwapBits doubleSwap
-markedCases-hold = _and_ refl (_and_ refl (_and_ refl (_and_ refl (_and_ refl (_and_ refl (_and_ refl (_and_ refl (_and_ refl (_and_ refl (_and_ refl done))))))))))
+unfolding markedCases complement rotate fromDigits toDigits digitsOf numbersOf divideByZ evenConstant oddConstant constantsFrom firstT constants double addProduct product squares inverse ss0 ss1 ss2 ss3 s0 s1 bitOf sumOfBits affine fRows gRows m0 m1 entry rowTimes matrixTimes substitute f0 f1 feistel rotateBranches rounds bitRange doubleSwapBits doubleSwap answer after judged keyCheck wayCheck outputCheck number pieces entriesHold recordCount formChecks eachBody sheetsHold recordsCheck recoded bookChecks encryptBookBy encryptBookCall
+markedCases-hold = _and_ refl (_and_ refl (_and_ refl (_and_ refl (_and_ refl (_and_ refl (_and_ refl (_and_ refl (_and_ refl (_and_ refl (_and_ refl (_and_ refl done)))))))))))

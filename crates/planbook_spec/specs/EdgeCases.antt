@@ -1,0 +1,179 @@
+-- The edges of the checks, and a book of two sheets under a toy cipher, of the definitions: computed lists. No theorem of the demands sees a slip that
+-- both calls share, such as one chain that runs on through all sheets, or a check that lets too much through; these cases do.
+use Prim.Native.Nat.{ℕ, _+_, _*_, _^_}
+use mathlib.Core.List.{List, [], _∷_, _++_}
+use mathlib.Core.Bool.{Bool, true, false, _&&_, false≢true}
+use mathlib.Core.Path.{_≡_, refl, ap₂}
+use borrow.Author.Tests.{eqb-true}
+use lib.Dec.{eqb}
+use lib.ListN.{take, drop, set, replicate}
+use lib.Seq.{sets}
+use Rattle.clefia_spec.specs.Words.{fromDigits, xors}
+use Rattle.clefia_spec.specs.Cases.{Case, _gives_, AllHold, done, _and_}
+use Rattle.planbook_spec.specs.Outcome.{Outcome, answer, after, judged}
+use Rattle.planbook_spec.specs.Checks.{keyCheck, wayCheck, blockCheck, outputCheck, constantCount, expandedCount, constantsCall, expandKeyCall, blockChecks, encryptBlockCall, decryptBlockCall}
+use Rattle.planbook_spec.specs.Book.{number, pieces, entryHolds, entriesHold, recordHolds, allRecordsHold, recordCount, formChecks, eachBody, sheetsHold, recordsCheck, cbcEncrypt, cbcDecrypt, encryptBody, decryptBody, recoded, bookChecks, encryptBookBy, decryptBookBy, encryptBookCall, decryptBookCall}
+
+-- A test that computes, of a whole list of cases.
+same : List ℕ → List ℕ → Bool
+same [] [] = true
+same [] (y ∷ ys) = false
+same (x ∷ xs) [] = false
+same (x ∷ xs) (y ∷ ys) = eqb x y && same xs ys
+
+allSame : List Case → Bool
+allSame [] = true
+allSame ((xs gives ys) ∷ cs) = same xs ys && allSame cs
+
+both : (a b : Bool) → a && b ≡ true → (a ≡ true) × (b ≡ true)
+both true b e = (refl, e)
+both false b e = absurd (false≢true e)
+
+same-equal : (xs ys : List ℕ) → same xs ys ≡ true → xs ≡ ys
+unfolding same
+same-equal [] [] e = refl
+same-equal [] (y ∷ ys) e = absurd (false≢true e)
+same-equal (x ∷ xs) [] e = absurd (false≢true e)
+same-equal (x ∷ xs) (y ∷ ys) e =
+    let h : (eqb x y ≡ true) × (same xs ys ≡ true) = both _ _ e in
+    ap₂ (λ (a : ℕ) (l : List ℕ). a ∷ l) (eqb-true x y (h .0)) (same-equal xs ys (h .1))
+
+computed : (cs : List Case) → allSame cs ≡ true → AllHold cs
+unfolding allSame
+computed [] e = done
+computed ((xs gives ys) ∷ cs) e =
+    let h : (same xs ys ≡ true) × (allSame cs ≡ true) = both _ _ e in
+    _and_ (same-equal xs ys (h .0)) (computed cs (h .1))
+
+-- The toy: the bytes of a block rotated by one place.
+abbrev pub toyEncrypt : List ℕ → List ℕ
+toyEncrypt x = drop 1 x ++ take 1 x
+
+abbrev pub toyDecrypt : List ℕ → List ℕ
+toyDecrypt x = drop 15 x ++ take 15 x
+
+-- The answers of the two calls, with an output of the right length.
+abbrev pub sealing : List ℕ → ℕ
+sealing book = answer (encryptBookBy [] toyEncrypt book book)
+
+abbrev pub opening : List ℕ → ℕ
+opening book = answer (decryptBookBy [] toyDecrypt book book)
+
+abbrev pub entryOf : ℕ → ℕ → ℕ → List ℕ
+entryOf t n v = 0 ∷ 0 ∷ 0 ∷ t ∷ 0 ∷ n ∷ 0 ∷ 0 ∷ replicate 16 v
+
+-- A clear book of one record: trial 41, entry 7, replicate 2. The entry stands at byte 4, the record at byte 28.
+abbrev pub small : List ℕ
+small = 1 ∷ 0 ∷ 0 ∷ 1 ∷ entryOf 41 1 0x10 ++ (0 ∷ 0 ∷ 0 ∷ 41 ∷ 0 ∷ 0 ∷ 0 ∷ 7 ∷ 2 ∷ replicate 7 0)
+
+-- A clear book of two sheets, of two records and of one: entries at bytes 4 and 28, records at 52, 68 and 84.
+abbrev pub twoEntries : List ℕ
+twoEntries = entryOf 41 2 0x10 ++ entryOf 42 1 0x20
+
+abbrev pub large : List ℕ
+large =
+    1 ∷ 0 ∷ 0 ∷ 2 ∷ twoEntries
+    ++ (0 ∷ 0 ∷ 0 ∷ 0x29 ∷ 0 ∷ 0 ∷ 0 ∷ 7 ∷ 2 ∷ 0 ∷ 0x0c ∷ 0 ∷ 3 ∷ 0 ∷ 0 ∷ 0 ∷ [])
+    ++ (0 ∷ 0 ∷ 0 ∷ 0x29 ∷ 0 ∷ 0 ∷ 0 ∷ 8 ∷ 4 ∷ 0xff ∷ 0xff ∷ 0xff ∷ 0xff ∷ 0 ∷ 0 ∷ 0 ∷ [])
+    ++ (0 ∷ 0 ∷ 0 ∷ 0x2a ∷ 0 ∷ 0 ∷ 0 ∷ 7 ∷ 1 ∷ 0 ∷ 0 ∷ 0 ∷ 0 ∷ 0 ∷ 0 ∷ 0 ∷ [])
+
+-- What it is sealed to. The second record is added to the first sealed one; the third, in a sheet of its own, to its own iv.
+abbrev pub sealedLarge : List ℕ
+sealedLarge =
+    2 ∷ 0 ∷ 0 ∷ 2 ∷ twoEntries
+    ++ (0x10 ∷ 0x10 ∷ 0x39 ∷ 0x10 ∷ 0x10 ∷ 0x10 ∷ 0x17 ∷ 0x12 ∷ 0x10 ∷ 0x1c ∷ 0x10 ∷ 0x13 ∷ 0x10 ∷ 0x10 ∷ 0x10 ∷ 0x10 ∷ [])
+    ++ (0x10 ∷ 0x39 ∷ 0x39 ∷ 0x10 ∷ 0x10 ∷ 0x17 ∷ 0x1a ∷ 0x14 ∷ 0xe3 ∷ 0xef ∷ 0xec ∷ 0xef ∷ 0x10 ∷ 0x10 ∷ 0x10 ∷ 0x10 ∷ [])
+    ++ (0x20 ∷ 0x20 ∷ 0x0a ∷ 0x20 ∷ 0x20 ∷ 0x20 ∷ 0x27 ∷ 0x21 ∷ 0x20 ∷ 0x20 ∷ 0x20 ∷ 0x20 ∷ 0x20 ∷ 0x20 ∷ 0x20 ∷ 0x20 ∷ [])
+
+pub bookCases : List Case
+bookCases =
+    (sealing large ∷ after large (encryptBookBy [] toyEncrypt large large) gives 3 ∷ sealedLarge)
+    ∷ (opening sealedLarge ∷ after sealedLarge (decryptBookBy [] toyDecrypt sealedLarge sealedLarge) gives 3 ∷ large)
+    -- 5: three bytes; one byte too many
+    ∷ (sealing (1 ∷ 0 ∷ 0 ∷ []) ∷ [] gives 5 * 2 ^ 32 ∷ [])
+    ∷ (sealing (replicate 65533 1) ∷ [] gives 5 * 2 ^ 32 ∷ [])
+    -- 6: the first byte, the second
+    ∷ (sealing (set small 0 2) ∷ [] gives 6 * 2 ^ 32 ∷ [])
+    ∷ (sealing (set small 1 1) ∷ [] gives 6 * 2 ^ 32 ∷ [])
+    -- 7: 65 sheets; 257 sheets
+    ∷ (sealing (set small 3 65) ∷ [] gives 7 * 2 ^ 32 ∷ [])
+    ∷ (sealing (set small 2 1) ∷ [] gives 7 * 2 ^ 32 ∷ [])
+    -- 8: 64 sheets pass, and their contents are not there
+    ∷ (sealing (set small 3 64) ∷ [] gives 8 * 2 ^ 32 ∷ [])
+    ∷ (sealing (take 27 small) ∷ [] gives 8 * 2 ^ 32 ∷ [])
+    -- 9: trial 0; no record; 1025 records; each of the two zero bytes; trials that do not rise
+    ∷ (sealing (set small 7 0) ∷ [] gives 9 * 2 ^ 32 ∷ [])
+    ∷ (sealing (set small 9 0) ∷ [] gives 9 * 2 ^ 32 ∷ [])
+    ∷ (sealing (set (set small 8 4) 9 1) ∷ [] gives 9 * 2 ^ 32 ∷ [])
+    ∷ (sealing (set small 10 1) ∷ [] gives 9 * 2 ^ 32 ∷ [])
+    ∷ (sealing (set small 11 1) ∷ [] gives 9 * 2 ^ 32 ∷ [])
+    ∷ (sealing (set large 31 41) ∷ [] gives 9 * 2 ^ 32 ∷ [])
+    -- 10: 1024 records pass, and are not there; a byte too few; a byte too many
+    ∷ (sealing (set (set small 8 4) 9 0) ∷ [] gives 10 * 2 ^ 32 ∷ [])
+    ∷ (sealing (take 43 small) ∷ [] gives 10 * 2 ^ 32 ∷ [])
+    ∷ (sealing (small ++ (0 ∷ [])) ∷ [] gives 10 * 2 ^ 32 ∷ [])
+    -- 11: the trial of another sheet; entry 0; replicates 0 and 5; each of the three zero bytes; the last record of two sheets
+    ∷ (sealing (set small 31 42) ∷ [] gives 11 * 2 ^ 32 ∷ [])
+    ∷ (sealing (set small 35 0) ∷ [] gives 11 * 2 ^ 32 ∷ [])
+    ∷ (sealing (set small 36 0) ∷ [] gives 11 * 2 ^ 32 ∷ [])
+    ∷ (sealing (set small 36 5) ∷ [] gives 11 * 2 ^ 32 ∷ [])
+    ∷ (sealing (set small 41 1) ∷ [] gives 11 * 2 ^ 32 ∷ [])
+    ∷ (sealing (set small 42 1) ∷ [] gives 11 * 2 ^ 32 ∷ [])
+    ∷ (sealing (set small 43 1) ∷ [] gives 11 * 2 ^ 32 ∷ [])
+    ∷ (sealing (set large 92 0) ∷ [] gives 11 * 2 ^ 32 ∷ [])
+    -- accepted: replicate 4; any row and column; the highest trial and entry
+    ∷ (sealing (set small 36 4) ∷ [] gives 1 ∷ [])
+    ∷ (sealing (sets small 37 (255 ∷ 255 ∷ 255 ∷ 255 ∷ [])) ∷ [] gives 1 ∷ [])
+    ∷ (sealing (sets (sets small 28 (replicate 8 255)) 4 (replicate 4 255)) ∷ [] gives 1 ∷ [])
+    -- 4 comes before 5
+    ∷ (answer (encryptBookBy [] toyEncrypt (1 ∷ 0 ∷ 0 ∷ []) (replicate 4 0)) ∷ [] gives 4 * 2 ^ 32 ∷ [])
+    -- opening: a clear book; clear records under the mark of a sealed book; replicate 5, and 4, once the chain is undone
+    ∷ (opening (set sealedLarge 0 1) ∷ [] gives 6 * 2 ^ 32 ∷ [])
+    ∷ (opening (set large 0 2) ∷ [] gives 11 * 2 ^ 32 ∷ [])
+    ∷ (opening (set sealedLarge 91 0x25) ∷ [] gives 11 * 2 ^ 32 ∷ [])
+    ∷ (opening (set sealedLarge 91 0x24) ∷ [] gives 3 ∷ [])
+    ∷ []
+
+pub bookCases-hold : AllHold bookCases
+unfolding bookCases allSame same fromDigits xors answer after judged outputCheck number pieces entryHolds entriesHold recordHolds allRecordsHold recordCount formChecks eachBody sheetsHold recordsCheck cbcEncrypt cbcDecrypt encryptBody decryptBody recoded bookChecks encryptBookBy decryptBookBy
+bookCases-hold = computed bookCases refl
+
+-- Checks 1 to 5, most with two or more that fail at once.
+pub callCases : List Case
+callCases =
+    -- constants: 1, 4
+    (answer (constantsCall 128 (replicate 240 0)) ∷ [] gives 1 * 2 ^ 32 ∷ [])
+    ∷ (answer (constantsCall 17 []) ∷ [] gives 1 * 2 ^ 32 ∷ [])
+    ∷ (answer (constantsCall 16 (replicate 60 0)) ∷ [] gives 4 * 2 ^ 32 ∷ [])
+    ∷ (answer (constantsCall 24 (replicate 240 0)) ∷ [] gives 4 * 2 ^ 32 ∷ [])
+    ∷ (answer (constantsCall 32 (replicate 336 0)) ∷ [] gives 4 * 2 ^ 32 ∷ [])
+    -- keys: 1, 2, 4
+    ∷ (answer (expandKeyCall (replicate 15 0) 4 []) ∷ [] gives 1 * 2 ^ 32 ∷ [])
+    ∷ (answer (expandKeyCall (replicate 17 0) 1 (replicate 160 0)) ∷ [] gives 1 * 2 ^ 32 ∷ [])
+    ∷ (answer (expandKeyCall (replicate 16 0) 0 []) ∷ [] gives 2 * 2 ^ 32 ∷ [])
+    ∷ (answer (expandKeyCall (replicate 16 0) 257 (replicate 160 0)) ∷ [] gives 2 * 2 ^ 32 ∷ [])
+    ∷ (answer (expandKeyCall (replicate 16 0) (2 ^ 32 + 1) (replicate 160 0)) ∷ [] gives 2 * 2 ^ 32 ∷ [])
+    ∷ (answer (expandKeyCall (replicate 16 0) 3 (replicate 40 0)) ∷ [] gives 4 * 2 ^ 32 ∷ [])
+    ∷ (answer (expandKeyCall (replicate 24 0) 3 (replicate 160 0)) ∷ [] gives 4 * 2 ^ 32 ∷ [])
+    ∷ (answer (expandKeyCall (replicate 32 0) 3 (replicate 192 0)) ∷ [] gives 4 * 2 ^ 32 ∷ [])
+    -- blocks: 1, 2, 3, 4
+    ∷ (answer (encryptBlockCall (replicate 33 0) 4 (replicate 15 0) (replicate 15 0)) ∷ [] gives 1 * 2 ^ 32 ∷ [])
+    ∷ (answer (encryptBlockCall (replicate 16 0) 4 (replicate 15 0) (replicate 15 0)) ∷ [] gives 2 * 2 ^ 32 ∷ [])
+    ∷ (answer (encryptBlockCall (replicate 16 0) 3 (replicate 15 0) (replicate 15 0)) ∷ [] gives 3 * 2 ^ 32 ∷ [])
+    ∷ (answer (encryptBlockCall (replicate 16 0) 3 (replicate 17 0) (replicate 16 0)) ∷ [] gives 3 * 2 ^ 32 ∷ [])
+    ∷ (answer (encryptBlockCall (replicate 16 0) 3 (replicate 16 0) (replicate 17 0)) ∷ [] gives 4 * 2 ^ 32 ∷ [])
+    ∷ (answer (decryptBlockCall (replicate 16 0) 3 (replicate 15 0) (replicate 15 0)) ∷ [] gives 3 * 2 ^ 32 ∷ [])
+    ∷ (answer (decryptBlockCall (replicate 16 0) 3 (replicate 16 0) (replicate 17 0)) ∷ [] gives 4 * 2 ^ 32 ∷ [])
+    -- books: 1, 2, 4, 5
+    ∷ (answer (encryptBookCall (replicate 15 0) 4 [] (replicate 4 0)) ∷ [] gives 1 * 2 ^ 32 ∷ [])
+    ∷ (answer (encryptBookCall (replicate 32 0) 4 [] (replicate 4 0)) ∷ [] gives 2 * 2 ^ 32 ∷ [])
+    ∷ (answer (encryptBookCall (replicate 32 0) 1 [] (replicate 4 0)) ∷ [] gives 4 * 2 ^ 32 ∷ [])
+    ∷ (answer (encryptBookCall (replicate 32 0) 1 [] []) ∷ [] gives 5 * 2 ^ 32 ∷ [])
+    ∷ (answer (decryptBookCall (replicate 15 0) 4 [] (replicate 4 0)) ∷ [] gives 1 * 2 ^ 32 ∷ [])
+    ∷ (answer (decryptBookCall (replicate 32 0) 4 [] (replicate 4 0)) ∷ [] gives 2 * 2 ^ 32 ∷ [])
+    ∷ (answer (decryptBookCall (replicate 32 0) 1 [] (replicate 4 0)) ∷ [] gives 4 * 2 ^ 32 ∷ [])
+    ∷ []
+
+pub callCases-hold : AllHold callCases
+unfolding callCases allSame same answer judged keyCheck wayCheck blockCheck outputCheck constantCount expandedCount constantsCall expandKeyCall blockChecks encryptBlockCall decryptBlockCall formChecks bookChecks encryptBookBy decryptBookBy encryptBookCall decryptBookCall
+callCases-hold = computed callCases refl
