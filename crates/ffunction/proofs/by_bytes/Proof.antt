@@ -1,0 +1,36 @@
+-- `ffunction::by_bytes` meets its contract: M0 goes with F0, M1 with F1.
+use borrow.Author.Needs.{needs}
+use native.Mathlib.Omega.{arith}
+use mathlib.Core.Path.{_≡_}
+use mathlib.Core.List.{[], _∷_}
+use Rattle.clefia_spec.specs.FFunction.{m0, m1}
+use Rattle.ffunction.specs.Tables.{matrix, mix}
+use Rattle.ffunction.proofs.by_bytes.Statement.{statement}
+use Rattle.ffunction.proofs.by_bytes.Tie as tie
+
+substitute-requires : tie.Need-substitute-requires
+substitute-requires c κs = search needs
+
+matrix-times-requires : tie.Need-matrix-times-requires
+matrix-times-requires c κs = search needs
+
+matrix-times-requires-2 : tie.Need-matrix-times-requires-2
+matrix-times-requires-2 c κs = search needs
+
+returns : tie.Need-returns
+unfolding mix matrix m0
+returns c =
+    let m : matrix (c .before .before .before .args .f) ≡ 0x01 ∷ 0x02 ∷ 0x04 ∷ 0x06 ∷ [] = rw (c .before .if1 .taken) in
+    cc
+
+returns-2 : tie.Need-returns-2
+unfolding mix matrix m1
+returns-2 c =
+    let e : c .before .before .before .args .f ≡ 1 = omega arith in
+    let m : matrix (c .before .before .before .args .f) ≡ 0x01 ∷ 0x08 ∷ 0x02 ∷ 0x0a ∷ [] = rw e in
+    cc
+
+pub by-bytes-spec : {M : Type 1} → statement M
+by-bytes-spec =
+    tie.close
+    (tie.spec substitute-requires matrix-times-requires matrix-times-requires-2 returns returns-2)

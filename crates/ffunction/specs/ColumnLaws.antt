@@ -1,0 +1,90 @@
+-- A matrix times four bytes is the sum of its columns, each times its byte: what the word tables rest on.
+use Prim.Native.Nat.{ℕ, zero, suc, _+_, _*_, _/_, _%_, _^_, _<_}
+use native.Mathlib.Nat.{div-one, pow-suc, suc-mul, le-of-suc-le-suc, not-suc-le-zero}
+use native.Mathlib.Omega.{arith}
+use mathlib.Core.Path.{_≡_, refl, ap, sym, _∙_, subst}
+use mathlib.Core.List.{List, [], _∷_}
+use lib.Bits.{xor-block}
+use lib.Dec.{lit<}
+use lib.Pow.{pow-add}
+use lib.ListN.{length, getD}
+use Rattle.clefia_spec.specs.Words.{_⊕_, fromDigits, toDigits, xors, Below, none, more}
+use Rattle.clefia_spec.specs.DigitLaws.{fromDigits-lt, below-xors, length-xors}
+use Rattle.clefia_spec.specs.Field.{product}
+use Rattle.clefia_spec.specs.FieldLaws.{product-lt}
+use Rattle.clefia_spec.specs.FFunction.{entry, rowTimes, matrixTimes, substitute}
+use Rattle.clefia_spec.specs.FFunctionLaws.{s0-lt, s1-lt}
+use Rattle.gf256.specs.Values.{value}
+use Rattle.sbox.specs.Boxes.{box}
+use Rattle.ffunction.specs.Tables.{matrix, mix, columnTimes, column, wordTable, wordTables}
+
+byte-pow : (n : ℕ) → 256 ^ n ≡ 2 ^ (n * 8)
+byte-pow zero = refl
+byte-pow (suc n) = pow-suc 256 n ∙ ap (λ (k : ℕ). k * 256) (byte-pow n) ∙ sym (pow-add 2 (n * 8) 8) ∙ ap (λ (k : ℕ). 2 ^ k) (sym (suc-mul n 8))
+
+number-lt : {n : ℕ} {xs : List ℕ} → length xs ≡ n → Below 256 xs → fromDigits 256 xs < 2 ^ (n * 8)
+number-lt {n} {xs} e r = subst (λ (m : ℕ). fromDigits 256 xs < m) (ap (λ (k : ℕ). 256 ^ k) e ∙ byte-pow n) (fromDigits-lt (lit< tt) r)
+
+-- Numbers are added digit by digit.
+pub fromDigits-xors : {xs ys : List ℕ} → length xs ≡ length ys → Below 256 xs → Below 256 ys
+    → fromDigits 256 (xors xs ys) ≡ fromDigits 256 xs ⊕ fromDigits 256 ys
+unfolding fromDigits xors
+fromDigits-xors e none r = refl
+fromDigits-xors e (more hx rx) none = let z : ⊥ = omega arith in absurd z
+fromDigits-xors e (more {x = x} {xs = xs} hx rx) (more {x = y} {xs = ys} hy ry) =
+    let l : length xs ≡ length ys = cc in
+    rw (length-xors xs ys, fromDigits-xors l rx ry, l, byte-pow (length ys))
+    (sym (xor-block (length ys * 8) x y (fromDigits 256 xs) (fromDigits 256 ys) (number-lt l rx) (number-lt refl ry)))
+
+columnBytes : List ℕ → ℕ → ℕ → List ℕ
+columnBytes m j y = product y (entry m 0 j) ∷ product y (entry m 1 j) ∷ product y (entry m 2 j) ∷ product y (entry m 3 j) ∷ []
+
+below-column : (m : List ℕ) (j y : ℕ) → y < 256 → Below 256 (columnBytes m j y)
+unfolding columnBytes
+below-column m j y h = more (term 0) (more (term 1) (more (term 2) (more (term 3) none)))
+  where
+    term : (i : ℕ) → product y (entry m i j) < 256
+    term i = product-lt y (entry m i j) h
+
+module _ (m : List ℕ) (a b c d : ℕ) (ha : a < 256) (hb : b < 256) (hc : c < 256) (hd : d < 256) where
+  pub matrixTimes-columns : matrixTimes m (a ∷ b ∷ c ∷ d ∷ [])
+      ≡ columnTimes m 0 a ⊕ columnTimes m 1 b ⊕ columnTimes m 2 c ⊕ columnTimes m 3 d
+  unfolding matrixTimes rowTimes columnTimes columnBytes xors
+  matrixTimes-columns =
+      fromDigits-xors refl (below-xors 8 (below-xors 8 ra rb) rc) rd
+      ∙ ap (λ (w : ℕ). w ⊕ columnTimes m 3 d) (fromDigits-xors refl (below-xors 8 ra rb) rc)
+      ∙ ap (λ (w : ℕ). w ⊕ columnTimes m 2 c ⊕ columnTimes m 3 d) (fromDigits-xors refl ra rb)
+    where
+      ra : Below 256 (columnBytes m 0 a)
+      ra = below-column m 0 a ha
+
+      rb : Below 256 (columnBytes m 1 b)
+      rb = below-column m 1 b hb
+
+      rc : Below 256 (columnBytes m 2 c)
+      rc = below-column m 2 c hc
+
+      rd : Below 256 (columnBytes m 3 d)
+      rd = below-column m 3 d hd
+
+box-lt : (i x : ℕ) → box i x < 256
+unfolding box
+box-lt zero x = s0-lt x
+box-lt (suc i) x = s1-lt x
+
+-- F0 and F1 by columns.
+pub mix-columns : (f z : ℕ) → f < 2
+    → mix f z ≡ column f 0 (z / 16777216 % 256) ⊕ column f 1 (z / 65536 % 256) ⊕ column f 2 (z / 256 % 256) ⊕ column f 3 (z % 256)
+unfolding mix column toDigits substitute
+mix-columns zero z h = rw (div-one z) (matrixTimes-columns (matrix 0) _ _ _ _ (box-lt 0 _) (box-lt 1 _) (box-lt 0 _) (box-lt 1 _))
+mix-columns (suc zero) z h = rw (div-one z) (matrixTimes-columns (matrix 1) _ _ _ _ (box-lt 1 _) (box-lt 0 _) (box-lt 1 _) (box-lt 0 _))
+mix-columns (suc (suc f)) z h = absurd (not-suc-le-zero (le-of-suc-le-suc (le-of-suc-le-suc h)))
+
+-- What stands in a word table.
+pub word-at : (f j x : ℕ) → f < 2 → j < 4 → x < 256 → getD (getD wordTables (4 * f + j) []) x 0 ≡ column f j x
+unfolding wordTables wordTable
+word-at f j x hf hj hx =
+    let t : 4 * f + j < 8 = omega arith in
+    let ef : (4 * f + j) / 4 ≡ f = omega arith in
+    let ej : (4 * f + j) % 4 ≡ j = omega arith in
+    rw (value wordTable 8 (4 * f + j) [] t, value (column ((4 * f + j) / 4) ((4 * f + j) % 4)) 256 x 0 hx, ef, ej)

@@ -1,0 +1,40 @@
+-- The tables that F0 and F1 may be given, by the rules, and F0 and F1 by number.
+use Prim.Native.Nat.{ℕ, zero, suc, _+_, _-_, _/_, _%_}
+use mathlib.Core.Path.{_≡_}
+use mathlib.Core.List.{List, [], _∷_}
+use Rattle.clefia_spec.specs.Words.{fromDigits, toDigits}
+use Rattle.clefia_spec.specs.Field.{product}
+use Rattle.clefia_spec.specs.FFunction.{m0, m1, entry, matrixTimes, substitute}
+use Rattle.gf256.specs.Values.{values}
+use Rattle.sbox.specs.Boxes.{box}
+unfoldable pub use Rattle.sbox.specs.Boxes.{byteTables}
+
+-- M0 is number 0, M1 number 1.
+unfoldable pub matrix : ℕ → List ℕ
+matrix zero = m0
+matrix (suc f) = m1
+
+-- F0 (f is 0) or F1 (f is 1) after the round key is added: the boxes by turns, beginning with number f, and the matrix.
+unfoldable pub mix : ℕ → ℕ → ℕ
+mix f z = matrixTimes (matrix f) (substitute (box f) (box (1 - f)) (toDigits 256 4 z))
+
+-- Column j of a matrix times a byte, as a word.
+unfoldable pub columnTimes : List ℕ → ℕ → ℕ → ℕ
+columnTimes m j y =
+    fromDigits 256 (product y (entry m 0 j) ∷ product y (entry m 1 j) ∷ product y (entry m 2 j) ∷ product y (entry m 3 j) ∷ [])
+
+-- What byte j of the input adds to the result: its column times the byte substituted by the box that F0 or F1 has there.
+unfoldable pub column : ℕ → ℕ → ℕ → ℕ
+column f j x = columnTimes (matrix f) j (box ((f + j) % 2) x)
+
+-- What a table of 256 words holds: four for the columns of M0, then four for those of M1.
+unfoldable pub wordTable : ℕ → List ℕ
+wordTable t = values (column (t / 4) (t % 4)) 0 256
+
+unfoldable pub wordTables : List (List ℕ)
+wordTables = values wordTable 0 8
+
+-- The tables that a caller lends for a way: way 2 reads the word tables, way 1 the byte tables, and way 3 neither.
+pub record Lent (way : ℕ) (ws bs : List (List ℕ)) : Type 0 where
+  pub words : way ≡ 2 → ws ≡ wordTables
+  pub bytes : way ≡ 1 → bs ≡ byteTables

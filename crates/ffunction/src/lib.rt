@@ -1,0 +1,115 @@
+// F0 and F1, the two functions of a round, by each of the three ways.
+pub mod tables;
+
+ghost use mathlib.Core.Path.{_≡_};
+ghost use mathlib.Core.List.{[], _∷_};
+ghost use Prim.Native.Nat.{_-_, _<_};
+ghost use lib.ListN.{getD};
+use gf256::product;
+ghost use Rattle.clefia_spec.specs.Words.{_⊕_, fromDigits, toDigits};
+ghost use Rattle.clefia_spec.specs.FFunction.{f0, f1, matrixTimes, substitute};
+ghost use Rattle.clefia_spec.specs.Field.{product};
+ghost use Rattle.sbox.specs.Boxes.{box};
+ghost use Rattle.ffunction.specs.Tables.{mix, column, wordTables, byteTables, Lent};
+
+// Entry x of the table for column j of M0 (f is 0) or M1 (f is 1).
+fn column(words: &[[u32; 256]; 8], f: usize, j: usize, x: usize) -> u32
+    requires { ⌜ (f < 2) × (j < 4) × (x < 256) ⌝ }
+    requires { ⌜ now words ≡ wordTables ⌝ }
+    ensures { λ r. ⌜ r ≡ column f j x ⌝ }
+{
+    words[4 * f + j][x]
+}
+
+// By word tables: one entry for each byte.
+fn by_words(words: &[[u32; 256]; 8], f: usize, z: u32) -> u32
+    requires { ⌜ f < 2 ⌝ }
+    requires { ⌜ now words ≡ wordTables ⌝ }
+    ensures { λ r. ⌜ r ≡ mix f z ⌝ }
+{
+    column(words, f, 0, (z / 16777216 % 256) as usize)
+        ^ column(words, f, 1, (z / 65536 % 256) as usize)
+        ^ column(words, f, 2, (z / 256 % 256) as usize)
+        ^ column(words, f, 3, (z % 256) as usize)
+}
+
+// The four bytes of a word through the boxes by turns, beginning with box i.
+fn substitute(way: u64, bytes: &[[u8; 256]; 2], i: usize, z: u32) -> [u8; 4]
+    requires { ⌜ i < 2 ⌝ }
+    requires { ⌜ (way ≡ 1 → now bytes ≡ byteTables) ⌝ }
+    ensures { λ r. ⌜ r ≡ substitute (box i) (box (1 - i)) (toDigits 256 4 z) ⌝ }
+{
+    [
+        sbox::substitute(way, bytes, i, (z / 16777216 % 256) as u8),
+        sbox::substitute(way, bytes, 1 - i, (z / 65536 % 256) as u8),
+        sbox::substitute(way, bytes, i, (z / 256 % 256) as u8),
+        sbox::substitute(way, bytes, 1 - i, (z % 256) as u8),
+    ]
+}
+
+// A row of a matrix, a b c d, times four bytes.
+fn row(a: u8, b: u8, c: u8, d: u8, y: [u8; 4]) -> u8
+    ensures { λ r. ⌜ r ≡ product (getD y 0 0) a ⊕ product (getD y 1 0) b ⊕ product (getD y 2 0) c ⊕ product (getD y 3 0) d ⌝ }
+{
+    product(y[0], a) ^ product(y[1], b) ^ product(y[2], c) ^ product(y[3], d)
+}
+
+// The word of four bytes, the first one highest.
+fn word(a: u8, b: u8, c: u8, d: u8) -> u32
+    ensures { λ r. ⌜ r ≡ fromDigits 256 (a ∷ b ∷ c ∷ d ∷ []) ⌝ }
+{
+    a as u32 * 16777216 + b as u32 * 65536 + c as u32 * 256 + d as u32
+}
+
+// The matrix with the first row a b c d times four bytes. Row i holds the same entries in another order: at column j stands the one at i ^ j.
+fn matrix_times(a: u8, b: u8, c: u8, d: u8, y: [u8; 4]) -> u32
+    ensures { λ r. ⌜ r ≡ matrixTimes (a ∷ b ∷ c ∷ d ∷ []) y ⌝ }
+{
+    word(
+        row(a, b, c, d, y),
+        row(b, a, d, c, y),
+        row(c, d, a, b, y),
+        row(d, c, b, a, y),
+    )
+}
+
+// Byte by byte, by ways 1 and 3. It is one function for F0 and F1 so that it stays out of line, and the rounds keep F0 and F1 inlined (DECISIONS).
+fn by_bytes(way: u64, bytes: &[[u8; 256]; 2], f: usize, z: u32) -> u32
+    requires { ⌜ f < 2 ⌝ }
+    requires { ⌜ (way ≡ 1 → now bytes ≡ byteTables) ⌝ }
+    ensures { λ r. ⌜ r ≡ mix f z ⌝ }
+{
+    let y = substitute(way, bytes, f, z);
+    if f == 0 {
+        matrix_times(0x01, 0x02, 0x04, 0x06, y)
+    } else {
+        matrix_times(0x01, 0x08, 0x02, 0x0a, y)
+    }
+}
+
+// F0 and F1 after the round key is added.
+fn mix(way: u64, words: &[[u32; 256]; 8], bytes: &[[u8; 256]; 2], f: usize, z: u32) -> u32
+    requires { ⌜ f < 2 ⌝ }
+    requires { ⌜ Lent way (now words) (now bytes) ⌝ }
+    ensures { λ r. ⌜ r ≡ mix f z ⌝ }
+{
+    if way == 2 {
+        by_words(words, f, z)
+    } else {
+        by_bytes(way, bytes, f, z)
+    }
+}
+
+pub fn f0(way: u64, words: &[[u32; 256]; 8], bytes: &[[u8; 256]; 2], k: u32, x: u32) -> u32
+    requires { ⌜ Lent way (now words) (now bytes) ⌝ }
+    ensures { λ r. ⌜ r ≡ f0 k x ⌝ }
+{
+    mix(way, words, bytes, 0, k ^ x)
+}
+
+pub fn f1(way: u64, words: &[[u32; 256]; 8], bytes: &[[u8; 256]; 2], k: u32, x: u32) -> u32
+    requires { ⌜ Lent way (now words) (now bytes) ⌝ }
+    ensures { λ r. ⌜ r ≡ f1 k x ⌝ }
+{
+    mix(way, words, bytes, 1, k ^ x)
+}
