@@ -4,7 +4,7 @@
 -- is records of 16 bytes, as many as its entry says. An entry is its 24 bytes here and a record its 16, and the names below read numbers out of
 -- them. Numbers are unsigned, highest byte first.
 use Prim.Native.Nat.{ℕ, zero, suc, _+_, _*_}
-use mathlib.Core.Bool.{Bool, true, false, _&&_}
+use mathlib.Core.Bool.{Bool, true, _&&_}
 use mathlib.Core.List.{List, [], _∷_, _++_}
 use lib.Dec.{eqb, leb, ltb}
 use lib.ListN.{length, getD, take, drop}

@@ -6,10 +6,9 @@ use mathlib.Core.Logic.{_↔_}
 use mathlib.Core.Path.{_≡_, refl, sym, ap, ap₂, _∙_}
 use lib.ListN.{length}
 use Rattle.clefia_spec.specs.Words.{Below}
-use Rattle.planbook_spec.specs.Outcome.{Outcome, accepted, Check, judged}
+use Rattle.planbook_spec.specs.Outcome.{accepted, Check, judged}
 use Rattle.planbook_spec.specs.OutcomeLaws.{AllPass, pass-left, pass-right, pass-tail, pass-append, judged-pass, Passed, passed}
-use Rattle.planbook_spec.specs.CheckLaws.{output-passes}
-use Rattle.planbook_spec.specs.Checks.{outputCheck}
+use Rattle.planbook_spec.specs.CheckLaws.{output-passes, output-size}
 use Rattle.planbook_spec.specs.Book.{iv, contents, recordCount, formChecks, recordsCheck, asItIs, encryptBody, decryptBody, recoded, bookChecks, encryptBookBy, decryptBookBy}
 use Rattle.planbook_spec.specs.Undoing.{Bytes, BlockCipher, bytes-take, bytes-drop, Every, every-map, Through, body-encrypted, body-decrypted}
 use Rattle.planbook_spec.specs.BookLaws.{Shaped, shape, shaped-entries, recoded-length, recoded-contents, recoded-form, recoded-records, recoded-through, recoded-asItIs}
@@ -19,6 +18,10 @@ book-form : (cs : List Check) (mark : ℕ) (f : List ℕ → List ℕ → List �
     → AllPass (formChecks mark book ++ (recordsCheck f book ∷ []))
 unfolding bookChecks
 book-form cs mark f book out p = pass-tail (pass-right cs _ p)
+
+book-output : (cs : List Check) (mark : ℕ) (f : List ℕ → List ℕ → List ℕ) (book out : List ℕ) → AllPass (bookChecks cs mark f book out) → length out ≡ length book
+unfolding bookChecks
+book-output cs mark f book out p = output-size out (pass-right cs _ p)
 
 -- A book that one call accepts has its shape.
 book-shape : (cs : List Check) (mark : ℕ) (f : List ℕ → List ℕ → List ℕ) (book out : List ℕ) → Below 256 book → AllPass (bookChecks cs mark f book out)
@@ -94,3 +97,18 @@ module _ (E D : List ℕ → List ℕ) (block : BlockCipher E D) where
       let fromY : recoded 1 (decryptBody D) y ≡ b =
       ap (recoded 1 (decryptBody D)) (sym (q .sameBytes)) ∙ recoded-through 1 2 t (entries-encrypted t) ∙ recoded-asItIs t in
       (λ e. sym fromX ∙ ap (recoded 1 (decryptBody D)) e ∙ fromY, λ e. sym (p .sameBytes) ∙ ap (recoded 2 (encryptBody E)) e ∙ q .sameBytes)
+
+  -- The book that an accepted call gives is as long as the lent output.
+  pub encrypted-length : (cs : List Check) (book out : List ℕ) {n : ℕ} {bs : List ℕ} → Below 256 book → encryptBookBy cs E book out ≡ accepted n bs → length bs ≡ length out
+  unfolding encryptBookBy
+  encrypted-length cs book out {n} {bs} r a =
+      let p : Passed (bookChecks cs 1 asItIs book out) _ n _ bs = passed _ _ _ a in
+      let s : Shaped 1 book = book-shape cs 1 asItIs book out r (p .checks) in
+      ap length (sym (p .sameBytes)) ∙ recoded-length 1 2 s (entries-encrypted s) ∙ sym (book-output cs 1 asItIs book out (p .checks))
+
+  pub decrypted-length : (cs : List Check) (book out : List ℕ) {n : ℕ} {bs : List ℕ} → Below 256 book → decryptBookBy cs D book out ≡ accepted n bs → length bs ≡ length out
+  unfolding decryptBookBy
+  decrypted-length cs book out {n} {bs} r a =
+      let p : Passed (bookChecks cs 2 (decryptBody D) book out) _ n _ bs = passed _ _ _ a in
+      let s : Shaped 2 book = book-shape cs 2 (decryptBody D) book out r (p .checks) in
+      ap length (sym (p .sameBytes)) ∙ recoded-length 2 1 s (entries-decrypted s) ∙ sym (book-output cs 2 (decryptBody D) book out (p .checks))

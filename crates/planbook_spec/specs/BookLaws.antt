@@ -2,20 +2,16 @@
 use Prim.Native.Nat.{ℕ, zero, suc, _+_, _*_, _≤_}
 use mathlib.Core.Bool.{Bool, true, false, _&&_, false≢true}
 use mathlib.Core.List.{List, [], _∷_, _++_}
-use mathlib.Core.Path.{_≡_, refl, sym, ap, ap₂, _∙_, subst}
+use mathlib.Core.Path.{_≡_, refl, sym, ap, _∙_, subst}
 use native.Mathlib.Omega.{arith}
-use native.Mathlib.Nat.{zero-mul, mul-zero}
-use borrow.Author.Tests.{leb-true, eqb-true, eq-eqb}
-use lib.Dec.{eqb, leb}
-use lib.ListN.{length, getD, take, drop, length-append, length-drop, take-append-drop}
+use borrow.Author.Tests.{eqb-true, eq-eqb}
+use lib.ListN.{length, take, drop, length-drop, take-append-drop}
 use lib.Seq.{length-take-le, take-at, drop-at, take-append-le, drop-append-le}
-use Rattle.clefia_spec.specs.Words.{fromDigits, Below, none, more}
-use Rattle.clefia_spec.specs.DigitLaws.{below-take, below-drop}
-use Rattle.planbook_spec.specs.Outcome.{Check, check}
-use Rattle.planbook_spec.specs.OutcomeLaws.{AllPass, pass-head, pass-tail, pass-left, pass-right, pass-append, pass-check}
-use Rattle.planbook_spec.specs.Checks.{outputCheck}
-use Rattle.planbook_spec.specs.Book.{number, pieces, iv, contents, bodies, recordCount, formChecks, eachBody, sheetsHold, recordsCheck, asItIs, recoded, bookChecks}
-use Rattle.planbook_spec.specs.Undoing.{Bytes, bytes-append, bytes-take, bytes-drop, Every, nothing, both, every-map, Through, each-keeps, each-through, each-asItIs, sheets-through}
+use Rattle.clefia_spec.specs.Words.{fromDigits, Below, more}
+use Rattle.planbook_spec.specs.Outcome.{check}
+use Rattle.planbook_spec.specs.OutcomeLaws.{AllPass, pass-head, pass-tail}
+use Rattle.planbook_spec.specs.Book.{number, pieces, contents, recordCount, formChecks, eachBody, sheetsHold, recordsCheck, asItIs, recoded}
+use Rattle.planbook_spec.specs.Undoing.{Bytes, bytes-append, bytes-take, bytes-drop, Every, nothing, both, Through, each-keeps, each-through, each-asItIs, sheets-through}
 
 -- ---- pieces
 

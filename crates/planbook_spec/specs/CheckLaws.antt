@@ -1,15 +1,16 @@
 -- What checks 1 to 4 permit.
 use Prim.Native.Nat.{ℕ}
 use mathlib.Core.Bool.{Bool, true, false, _||_}
-use mathlib.Core.List.{List, [], _∷_, _++_}
+use mathlib.Core.List.{List, [], _∷_}
+use mathlib.Core.Logic.{_≢_}
 use mathlib.Core.Path.{_≡_, refl, sym, subst, _∙_}
-use borrow.Author.Tests.{eqb-true, eq-eqb}
+use borrow.Author.Tests.{eqb-true, eq-eqb, ne-eqb}
 use lib.Dec.{eqb}
 use lib.ListN.{length}
 use Rattle.clefia_spec.specs.Words.{KeyLength, sixteen, twentyFour, thirtyTwo}
-use Rattle.planbook_spec.specs.Outcome.{Check, check}
-use Rattle.planbook_spec.specs.OutcomeLaws.{AllPass, none, more, pass-head, pass-tail, pass-append, pass-check}
-use Rattle.planbook_spec.specs.Checks.{keyCheck, wayCheck, outputCheck, keyAndWay}
+use Rattle.planbook_spec.specs.Outcome.{Outcome, refused, Check, judged}
+use Rattle.planbook_spec.specs.OutcomeLaws.{AllPass, none, more, pass-head, pass-append, pass-check, judged-append, judged-pass, judged-true, judged-false}
+use Rattle.planbook_spec.specs.Checks.{keyCheck, wayCheck, blockCheck, outputCheck, keyAndWay}
 
 -- The three ways.
 pub data Way : ℕ → Type 0 where
@@ -28,6 +29,9 @@ oneOfThree P n a b c pa pb pc = go (eqb n a) (eqb n b) (eqb n c) refl refl refl
     go true y z ea eb ec t = at a pa ea
     go false true z ea eb ec t = at b pb eb
     go false false z ea eb ec t = at c pc (ec ∙ t)
+
+noneOfThree : (n a b c : ℕ) → n ≢ a → n ≢ b → n ≢ c → eqb n a || eqb n b || eqb n c ≡ false
+noneOfThree n a b c p q r = rw (ne-eqb n a p, ne-eqb n b q) (ne-eqb n c r)
 
 pub key-permitted : {n : ℕ} {cs : List Check} → AllPass (keyCheck n ∷ cs) → KeyLength n
 unfolding keyCheck
@@ -49,9 +53,54 @@ way-passes one = more none
 way-passes two = more none
 way-passes three = more none
 
+pub block-passes : (block : List ℕ) → length block ≡ 16 → AllPass (blockCheck block ∷ [])
+unfolding blockCheck
+block-passes block e = pass-check (eq-eqb (length block) 16 e)
+
 pub output-passes : (n : ℕ) (out : List ℕ) → length out ≡ n → AllPass (outputCheck n out ∷ [])
 unfolding outputCheck
 output-passes n out e = pass-check (eq-eqb (length out) n e)
 
+pub output-size : (out : List ℕ) {n : ℕ} {cs : List Check} → AllPass (outputCheck n out ∷ cs) → length out ≡ n
+unfolding outputCheck
+output-size out p = eqb-true _ _ (pass-head p)
+
+pub block-size : (block : List ℕ) {cs : List Check} → AllPass (blockCheck block ∷ cs) → length block ≡ 16
+unfolding blockCheck
+block-size block p = eqb-true _ _ (pass-head p)
+
 pub keyAndWay-passes : (key : List ℕ) {w : ℕ} → KeyLength (length key) → Way w → AllPass (keyAndWay key w)
 keyAndWay-passes key k w = pass-append (key-passes k) (way-passes w)
+
+-- ---- one of these checks at the head of a list, as code meets it
+
+module _ (cs : List Check) (o : Outcome) where
+  pub key-accepted : {n : ℕ} → KeyLength n → judged (keyCheck n ∷ cs) o ≡ judged cs o
+  key-accepted k = judged-append (keyCheck _ ∷ []) cs o ∙ judged-pass (key-passes k) (judged cs o)
+
+  pub way-accepted : {w : ℕ} → Way w → judged (wayCheck w ∷ cs) o ≡ judged cs o
+  way-accepted w = judged-append (wayCheck _ ∷ []) cs o ∙ judged-pass (way-passes w) (judged cs o)
+
+  pub block-accepted : (block : List ℕ) → length block ≡ 16 → judged (blockCheck block ∷ cs) o ≡ judged cs o
+  unfolding blockCheck
+  block-accepted block e = judged-true (eq-eqb (length block) 16 e) 3 cs o
+
+  pub output-accepted : (n : ℕ) (out : List ℕ) → length out ≡ n → judged (outputCheck n out ∷ cs) o ≡ judged cs o
+  unfolding outputCheck
+  output-accepted n out e = judged-true (eq-eqb (length out) n e) 4 cs o
+
+  pub key-refused : (n : ℕ) → n ≢ 16 → n ≢ 24 → n ≢ 32 → judged (keyCheck n ∷ cs) o ≡ refused 1
+  unfolding keyCheck
+  key-refused n a b c = judged-false (noneOfThree n 16 24 32 a b c) 1 cs o
+
+  pub way-refused : (w : ℕ) → w ≢ 1 → w ≢ 2 → w ≢ 3 → judged (wayCheck w ∷ cs) o ≡ refused 2
+  unfolding wayCheck
+  way-refused w a b c = judged-false (noneOfThree w 1 2 3 a b c) 2 cs o
+
+  pub block-refused : (block : List ℕ) → length block ≢ 16 → judged (blockCheck block ∷ cs) o ≡ refused 3
+  unfolding blockCheck
+  block-refused block h = judged-false (ne-eqb (length block) 16 h) 3 cs o
+
+  pub output-refused : (n : ℕ) (out : List ℕ) → length out ≢ n → judged (outputCheck n out ∷ cs) o ≡ refused 4
+  unfolding outputCheck
+  output-refused n out h = judged-false (ne-eqb (length out) n h) 4 cs o

@@ -10,7 +10,7 @@ use Rattle.clefia_spec.specs.Words.{bytesOf, byKeyLength}
 use Rattle.clefia_spec.specs.Constants.{constants}
 use Rattle.clefia_spec.specs.KeySchedule.{expandKey}
 use Rattle.clefia_spec.specs.Block.{encrypt, decrypt}
-use Rattle.planbook_spec.specs.Outcome.{Outcome, refused, accepted, Check, check, judged}
+use Rattle.planbook_spec.specs.Outcome.{Outcome, accepted, Check, check, judged}
 
 -- Check 1: a key has 16, 24 or 32 bytes.
 unfoldable pub keyCheck : ℕ → Check

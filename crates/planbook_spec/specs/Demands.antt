@@ -3,17 +3,17 @@
 use Prim.Native.Nat.{ℕ, _*_, _^_}
 use mathlib.Core.List.{List, [], _∷_, _++_}
 use mathlib.Core.Logic.{_↔_}
-use mathlib.Core.Path.{_≡_}
+use mathlib.Core.Path.{_≡_, ap, _∙_}
 use lib.ListN.{length}
 use Rattle.clefia_spec.specs.Words.{fromDigits, bytesOf, KeyLength, Below}
 use Rattle.clefia_spec.specs.Constants.{constants}
 use Rattle.clefia_spec.specs.KeySchedule.{expandKey}
 use Rattle.clefia_spec.specs.Block.{encryptUnder, decryptUnder, encrypt, decrypt}
 use Rattle.clefia_spec.specs.BlockLaws.{Block, Undoes, decrypt-undoes-encrypt, encrypt-undoes-decrypt, decrypt-undoes-encrypt-under, encrypt-undoes-decrypt-under}
-use Rattle.planbook_spec.specs.Outcome.{accepted, after}
-use Rattle.planbook_spec.specs.OutcomeLaws.{none, more, pass-append, judged-pass, passed, Accepted, accepted-is, Judges, judges}
+use Rattle.planbook_spec.specs.Outcome.{accepted, after, judged}
+use Rattle.planbook_spec.specs.OutcomeLaws.{none, more, pass-tail, pass-append, judged-pass, Passed, passed, Accepted, accepted-is, Judges, judges}
 use Rattle.planbook_spec.specs.Checks.{keyCheck, outputCheck, keyAndWay, constantCount, expandedCount, constantsCall, expandKeyCall, blockChecks, encryptBlockCall, decryptBlockCall}
-use Rattle.planbook_spec.specs.CheckLaws.{Way, key-permitted, output-passes, keyAndWay-passes}
+use Rattle.planbook_spec.specs.CheckLaws.{Way, key-permitted, block-size, block-passes, output-passes, keyAndWay-passes}
 use Rattle.planbook_spec.specs.Book.{number, pieces, entriesHold, contents, recordCount, formChecks, eachBody, sheetsHold, recordsCheck, asItIs, decryptBody, recoded, bookChecks, encryptBookBy, decryptBookBy, sealedBook, openedBook, encryptBookCall, decryptBookCall}
 use Rattle.planbook_spec.specs.Undoing.{Bytes, Undone, BlockCipher}
 use Rattle.planbook_spec.specs.BookCipher.{encrypted-decrypts, decrypted-encrypts, encrypted-is, encrypted-alike}
@@ -65,11 +65,11 @@ pub cipher : {key : List ℕ} → KeyLength (length key) → Below 256 key → B
 cipher k h = record { encrypted = undone (decrypt-undoes-encrypt k h); decrypted = undone (encrypt-undoes-decrypt k h) }
 
 -- A key with which a call was accepted has a permitted length.
-sealing-key : (key : List ℕ) (way : ℕ) (book out : List ℕ) {n : ℕ} {bs : List ℕ} → encryptBookCall key way book out ≡ accepted n bs → KeyLength (length key)
+pub sealing-key : (key : List ℕ) (way : ℕ) (book out : List ℕ) {n : ℕ} {bs : List ℕ} → encryptBookCall key way book out ≡ accepted n bs → KeyLength (length key)
 unfolding encryptBookCall encryptBookBy bookChecks
 sealing-key key way book out a = key-permitted (passed _ _ _ a .checks)
 
-opening-key : (key : List ℕ) (way : ℕ) (book out : List ℕ) {n : ℕ} {bs : List ℕ} → decryptBookCall key way book out ≡ accepted n bs → KeyLength (length key)
+pub opening-key : (key : List ℕ) (way : ℕ) (book out : List ℕ) {n : ℕ} {bs : List ℕ} → decryptBookCall key way book out ≡ accepted n bs → KeyLength (length key)
 unfolding decryptBookCall decryptBookBy bookChecks
 opening-key key way book out a = key-permitted (passed _ _ _ a .checks)
 
@@ -92,6 +92,32 @@ module _ (key : List ℕ) (bytes : Below 256 key) (way way′ : ℕ) (permitted 
   demand2-seals book out out′ r a e =
       let k : KeyLength (length key) = opening-key key way book out a in
       decrypted-encrypts (encrypt key) (decrypt key) (cipher k bytes) (keyAndWay key way) (keyAndWay key way′) book out out′ r a (keyAndWay-passes key k permitted) e
+
+-- So with single blocks: the one call, by F, gives what the other, by G, takes back.
+block-comes-back : {F G : List ℕ → List ℕ} → Undone (Bytes 16) F G → (key : List ℕ) {way : ℕ} → KeyLength (length key) → Way way
+    → (block out : List ℕ) → Bytes 16 block → length out ≡ 16
+    → judged (blockChecks key way (F block) out) (accepted 1 (G (F block))) ≡ accepted 1 block
+unfolding blockChecks
+block-comes-back {F} u key k w block out b e =
+    judged-pass (pass-append (keyAndWay-passes key k w) (pass-append (block-passes (F block) (u .keeps block b .size)) (output-passes 16 out e))) _
+    ∙ ap (accepted 1) (u .back block b)
+
+module _ (key : List ℕ) (bytes : Below 256 key) (way way′ : ℕ) (permitted : Way way′) (block out out′ : List ℕ) {n : ℕ} {bs : List ℕ} (below : Below 256 block) (room : length out′ ≡ 16) where
+  pub demand2-block-opens : encryptBlockCall key way block out ≡ accepted n bs → decryptBlockCall key way′ bs out′ ≡ accepted n block
+  unfolding encryptBlockCall decryptBlockCall blockChecks
+  demand2-block-opens a =
+      let p : Passed (blockChecks key way block out) 1 n _ bs = passed _ _ _ a in
+      let k : KeyLength (length key) = key-permitted (p .checks) in
+      let b : Bytes 16 block = record { size = block-size block (pass-tail (pass-tail (p .checks))); below = below } in
+      rw (← p .sameBytes, ← p .sameCount) (block-comes-back (cipher k bytes .encrypted) key k permitted block out′ b room)
+
+  pub demand2-block-seals : decryptBlockCall key way block out ≡ accepted n bs → encryptBlockCall key way′ bs out′ ≡ accepted n block
+  unfolding encryptBlockCall decryptBlockCall blockChecks
+  demand2-block-seals a =
+      let p : Passed (blockChecks key way block out) 1 n _ bs = passed _ _ _ a in
+      let k : KeyLength (length key) = key-permitted (p .checks) in
+      let b : Bytes 16 block = record { size = block-size block (pass-tail (pass-tail (p .checks))); below = below } in
+      rw (← p .sameBytes, ← p .sameCount) (block-comes-back (cipher k bytes .decrypted) key k permitted block out′ b room)
 
 -- ---- demand 3: of two clear books a and b that sealing accepts under one key, each by whichever way. A sealed book is the whole lent output afterwards.
 

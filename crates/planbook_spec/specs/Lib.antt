@@ -1,12 +1,13 @@
+pub mod AnswerCases
 pub mod MarkedCases
 pub mod Outcome
 pub mod Checks
 pub mod Book
 pub mod OutcomeLaws
+pub mod CheckLaws
 pub mod Undoing
 pub mod BookLaws
-pub mod CheckLaws
 pub mod BookCipher
 pub mod Demands
+pub mod OutputLengths
 pub mod WalkLaws
-pub mod EdgeCases

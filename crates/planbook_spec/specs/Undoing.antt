@@ -1,15 +1,14 @@
 -- A coding and the one that takes it back: single blocks, chains of blocks, the bodies of a book. One notion, Undone, serves all of them, in both
 -- directions.
-use Prim.Native.Nat.{ℕ, zero, suc, _+_, _*_, _≤_}
-use mathlib.Core.Bool.{Bool, _&&_}
+use Prim.Native.Nat.{ℕ, zero, suc, _+_, _*_}
 use mathlib.Core.List.{List, [], _∷_, _++_}
-use mathlib.Core.Path.{_≡_, refl, sym, ap, ap₂, _∙_, subst}
+use mathlib.Core.Path.{_≡_, refl, ap₂, _∙_}
 use native.Mathlib.Omega.{arith}
 use lib.ListN.{length, take, drop, length-append, length-drop, take-append-drop}
 use lib.Seq.{length-take-le, take-at, drop-at}
 use Rattle.clefia_spec.specs.Words.{xors, Below, none}
 use Rattle.clefia_spec.specs.DigitLaws.{below-append, below-take, below-drop, length-xors, xors-cancel, below-xors}
-use Rattle.planbook_spec.specs.Book.{number, count, iv, sheetHolds, recordCount, eachBody, sheetsHold, asItIs, cbcEncrypt, cbcDecrypt, encryptBody, decryptBody}
+use Rattle.planbook_spec.specs.Book.{count, iv, recordCount, eachBody, sheetsHold, asItIs, cbcEncrypt, cbcDecrypt, encryptBody, decryptBody}
 
 -- A row of n bytes.
 pub record Bytes (n : ℕ) (xs : List ℕ) : Type 0 where

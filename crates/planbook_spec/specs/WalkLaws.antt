@@ -1,13 +1,13 @@
 -- Laws for code that walks a book by offsets: numbers read at an offset, one entry, one body, one block or one record taken off the front of what is
 -- left. Loops count down: n is what is left, at the offset of the next piece.
-use Prim.Native.Nat.{ℕ, zero, suc, _+_, _-_, _*_, _^_, _≤_, _<_}
+use Prim.Native.Nat.{ℕ, zero, suc, _+_, _-_, _*_, _≤_, _<_}
 use mathlib.Core.Bool.{Bool, true, false, _&&_}
 use mathlib.Core.List.{List, [], _∷_, _++_, append-assoc}
 use mathlib.Core.Path.{_≡_, refl, sym, ap, ap₂, _∙_}
 use native.Mathlib.Nat.{add-zero}
 use native.Mathlib.Omega.{arith}
-use lib.ListN.{length, getD, set, take, drop, length-append, length-drop, take-append-drop}
-use lib.Seq.{drop-cons, drop-drop, getD-drop, getD-take, take-add, take-nil, drop-nil}
+use lib.ListN.{length, getD, set, take, drop, length-append, length-drop}
+use lib.Seq.{drop-drop, getD-drop, getD-take, take-add}
 use Rattle.clefia_spec.specs.Words.{fromDigits, xors}
 use Rattle.clefia_spec.specs.DigitLaws.{length-xors}
 use Rattle.planbook_spec.specs.Book.{number, pieces, trial, count, iv, entryHolds, entriesHold, recordHolds, allRecordsHold, sheetHolds, sheetCount, contents, bodies, recordCount, eachBody, sheetsHold, cbcEncrypt, cbcDecrypt, encryptBody, decryptBody, recoded}

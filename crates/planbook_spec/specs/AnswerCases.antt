@@ -10,7 +10,7 @@ use lib.ListN.{take, drop, set, replicate}
 use lib.Seq.{sets}
 use Rattle.clefia_spec.specs.Words.{fromDigits, xors}
 use Rattle.clefia_spec.specs.Cases.{Case, _gives_, AllHold, done, _and_}
-use Rattle.planbook_spec.specs.Outcome.{Outcome, answer, after, judged}
+use Rattle.planbook_spec.specs.Outcome.{answer, after, judged}
 use Rattle.planbook_spec.specs.Checks.{keyCheck, wayCheck, blockCheck, outputCheck, constantCount, expandedCount, constantsCall, expandKeyCall, blockChecks, encryptBlockCall, decryptBlockCall}
 use Rattle.planbook_spec.specs.Book.{number, pieces, entryHolds, entriesHold, recordHolds, allRecordsHold, recordCount, formChecks, eachBody, sheetsHold, recordsCheck, cbcEncrypt, cbcDecrypt, encryptBody, decryptBody, recoded, bookChecks, encryptBookBy, decryptBookBy, encryptBookCall, decryptBookCall}
 
