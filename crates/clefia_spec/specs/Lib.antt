@@ -7,7 +7,7 @@ pub mod Network
 pub mod KeySchedule
 pub mod Block
 pub mod Cases
-pub mod WorkedExamples
+pub mod Examples
 pub mod XorLaws
 pub mod DigitLaws
 pub mod NetworkLaws
