@@ -1,0 +1,42 @@
+-- Laws of rows of a known length and of rounds, for any number of branches.
+use Prim.Native.Nat.{ℕ, zero, suc, _+_, _-_, _*_, _≤_, _<_}
+use mathlib.Core.Path.{_≡_, refl, ap}
+use mathlib.Core.List.{List, [], _∷_, _++_}
+use native.Mathlib.Numerals.{add-one, sub-one}
+use native.Mathlib.Omega.{arith}
+use lib.ListN.{length, getD, take, drop}
+use Rattle.clefia_spec.specs.Words.{fourAt}
+use Rattle.clefia_spec.specs.Network.{feistel, rotateLeft, rotateRight, rounds, undoRounds}
+
+-- The first n elements of a row, each written out.
+unfoldable pub spelled : ℕ → List ℕ → List ℕ
+spelled zero s = []
+spelled (suc n) s = getD s 0 0 ∷ spelled n (drop 1 s)
+
+-- A row is its elements. Rewritten so, what is defined on rows computes.
+pub spell : (n : ℕ) (s : List ℕ) → length s ≡ n → s ≡ spelled n s
+unfolding spelled
+spell zero [] h = refl
+spell zero (x ∷ s) h = let z : ⊥ = omega arith in absurd z
+spell (suc n) [] h = let z : ⊥ = omega arith in absurd z
+spell (suc n) (x ∷ s) h = ap (λ (t : List ℕ). x ∷ t) (spell n s (omega arith))
+
+-- The rounds, at least one of which is left: the first, and the rest.
+pub rounds-step : (p : ℕ) (f g : ℕ → ℕ → ℕ) (n : ℕ) (w : List ℕ) (i : ℕ) (s : List ℕ) → 0 < n →
+    rounds p f g (n - 1) w (i + p) (rotateLeft (feistel f g w i s)) ≡ rounds p f g n w i s
+unfolding rounds
+rounds-step p f g zero w i s h = let z : ⊥ = omega arith in absurd z
+rounds-step p f g (suc n) w i s h = rw (sub-one (suc n)) refl
+
+-- No rounds are left, so the state is that after all rounds.
+pub rounds-end : (p : ℕ) (f g : ℕ → ℕ → ℕ) (left n : ℕ) (w : List ℕ) (i at : ℕ) (s t : List ℕ) → left ≤ 0 →
+    rounds p f g left w i t ≡ rounds p f g n w at s → t ≡ rounds p f g n w at s
+unfolding rounds
+rounds-end p f g zero n w i at s t h e = e
+rounds-end p f g (suc left) n w i at s t h e = let z : ⊥ = omega arith in absurd z
+
+-- One round more is taken back: the one whose keys stand before those of the rounds taken back.
+pub undo-step : (p : ℕ) (f g : ℕ → ℕ → ℕ) (n : ℕ) (w : List ℕ) (i j : ℕ) (s : List ℕ) → j ≡ i + p →
+    feistel f g w i (rotateRight (undoRounds p f g n w j s)) ≡ undoRounds p f g (n + 1) w i s
+unfolding undoRounds
+undo-step p f g n w i j s h = rw (h, add-one)

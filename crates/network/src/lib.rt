@@ -1,0 +1,146 @@
+// The generalised Feistel networks of four and of eight branches. A state is a row of words, passed and returned by value.
+// `way` says how the round functions are worked out; the tables that they read are lent all the way down.
+ghost use mathlib.Core.Path.{_≡_};
+ghost use Prim.Native.Nat.{_+_, _*_, _≤_};
+ghost use lib.ListN.{length};
+ghost use Rattle.clefia_spec.specs.FFunction.{f0, f1};
+ghost use Rattle.clefia_spec.specs.Network.{feistel, rotateLeft, rotateRight, network4, inverseNetwork4, network8};
+ghost use Rattle.ffunction.specs.Tables.{Lent};
+
+fn rotate_left4(s: [u32; 4]) -> [u32; 4]
+    ensures { λ r. ⌜ r ≡ rotateLeft s ⌝ }
+{
+    [s[1], s[2], s[3], s[0]]
+}
+
+fn rotate_right4(s: [u32; 4]) -> [u32; 4]
+    ensures { λ r. ⌜ r ≡ rotateRight s ⌝ }
+{
+    [s[3], s[0], s[1], s[2]]
+}
+
+// The Feistel step of a round, with the round keys at `at` of `w`.
+fn feistel4(
+    way: u64,
+    words: &[[u32; 256]; 8],
+    bytes: &[[u8; 256]; 2],
+    w: &[u32],
+    at: usize,
+    s: [u32; 4],
+) -> [u32; 4]
+    requires { ⌜ Lent way (now words) (now bytes) ⌝ }
+    requires { ⌜ at + 2 ≤ length (now w) ⌝ }
+    ensures { λ r. ⌜ r ≡ feistel f0 f1 (now (w .entry)) at s ⌝ }
+{
+    let y = s[1] ^ ffunction::f0(way, words, bytes, w[at], s[0]);
+    let z = s[3] ^ ffunction::f1(way, words, bytes, w[at + 1], s[2]);
+    [s[0], y, s[2], z]
+}
+
+// n rounds with the round keys from `at` on.
+pub fn network4(
+    way: u64,
+    words: &[[u32; 256]; 8],
+    bytes: &[[u8; 256]; 2],
+    w: &[u32],
+    n: usize,
+    at: usize,
+    s: [u32; 4],
+) -> [u32; 4]
+    requires { ⌜ Lent way (now words) (now bytes) ⌝ }
+    requires { ⌜ at + 2 * n ≤ length (now w) ⌝ }
+    ensures { λ r. ⌜ r ≡ network4 n (now (w .entry)) at s ⌝ }
+{
+    let mut t = s;
+    let mut left = n;
+    let mut i = at;
+    while 0 < left {
+        let next = rotate_left4(feistel4(way, words, bytes, w, i, t));
+        t = next;
+        left -= 1;
+        i += 2;
+    }
+    rotate_right4(t)
+}
+
+// The same rounds taken back, the last one first.
+pub fn inverse_network4(
+    way: u64,
+    words: &[[u32; 256]; 8],
+    bytes: &[[u8; 256]; 2],
+    w: &[u32],
+    n: usize,
+    at: usize,
+    s: [u32; 4],
+) -> [u32; 4]
+    requires { ⌜ Lent way (now words) (now bytes) ⌝ }
+    requires { ⌜ at + 2 * n ≤ length (now w) ⌝ }
+    ensures { λ r. ⌜ r ≡ inverseNetwork4 n (now (w .entry)) at s ⌝ }
+{
+    let mut t = rotate_left4(s);
+    let mut done = 0;
+    let mut i = at + 2 * n;
+    while done < n {
+        i -= 2;
+        let next = feistel4(way, words, bytes, w, i, rotate_right4(t));
+        t = next;
+        done += 1;
+    }
+    t
+}
+
+fn rotate_left8(s: [u32; 8]) -> [u32; 8]
+    ensures { λ r. ⌜ r ≡ rotateLeft s ⌝ }
+{
+    [s[1], s[2], s[3], s[4], s[5], s[6], s[7], s[0]]
+}
+
+fn rotate_right8(s: [u32; 8]) -> [u32; 8]
+    ensures { λ r. ⌜ r ≡ rotateRight s ⌝ }
+{
+    [s[7], s[0], s[1], s[2], s[3], s[4], s[5], s[6]]
+}
+
+fn feistel8(
+    way: u64,
+    words: &[[u32; 256]; 8],
+    bytes: &[[u8; 256]; 2],
+    w: &[u32],
+    at: usize,
+    s: [u32; 8],
+) -> [u32; 8]
+    requires { ⌜ Lent way (now words) (now bytes) ⌝ }
+    requires { ⌜ at + 4 ≤ length (now w) ⌝ }
+    ensures { λ r. ⌜ r ≡ feistel f0 f1 (now (w .entry)) at s ⌝ }
+{
+    let p = s[1] ^ ffunction::f0(way, words, bytes, w[at], s[0]);
+    let q = s[3] ^ ffunction::f1(way, words, bytes, w[at + 1], s[2]);
+    let u = s[5] ^ ffunction::f0(way, words, bytes, w[at + 2], s[4]);
+    let v = s[7] ^ ffunction::f1(way, words, bytes, w[at + 3], s[6]);
+    [s[0], p, s[2], q, s[4], u, s[6], v]
+}
+
+pub fn network8(
+    way: u64,
+    words: &[[u32; 256]; 8],
+    bytes: &[[u8; 256]; 2],
+    w: &[u32],
+    n: usize,
+    at: usize,
+    s: [u32; 8],
+) -> [u32; 8]
+    requires { ⌜ Lent way (now words) (now bytes) ⌝ }
+    requires { ⌜ at + 4 * n ≤ length (now w) ⌝ }
+    ensures { λ r. ⌜ r ≡ network8 n (now (w .entry)) at s ⌝ }
+{
+    let mut t = s;
+    let mut left = n;
+    let mut i = at;
+    while 0 < left {
+        let next = rotate_left8(feistel8(way, words, bytes, w, i, t));
+        t = next;
+        left -= 1;
+        i += 4;
+    }
+    rotate_right8(t)
+}
