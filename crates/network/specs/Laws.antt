@@ -1,25 +1,10 @@
--- Laws of rows of a known length and of rounds, for any number of branches.
-use Prim.Native.Nat.{ℕ, zero, suc, _+_, _-_, _*_, _≤_, _<_}
-use mathlib.Core.Path.{_≡_, refl, ap}
-use mathlib.Core.List.{List, [], _∷_, _++_}
+-- One round and the rest, forward and back, for any number of branches: what the loops over rounds cite.
+use Prim.Native.Nat.{ℕ, zero, suc, _+_, _-_, _≤_, _<_}
+use mathlib.Core.Path.{_≡_, refl}
+use mathlib.Core.List.{List}
 use native.Mathlib.Numerals.{add-one, sub-one}
 use native.Mathlib.Omega.{arith}
-use lib.ListN.{length, getD, take, drop}
-use Rattle.clefia_spec.specs.Words.{fourAt}
 use Rattle.clefia_spec.specs.Network.{feistel, rotateLeft, rotateRight, rounds, undoRounds}
-
--- The first n elements of a row, each written out.
-unfoldable pub spelled : ℕ → List ℕ → List ℕ
-spelled zero s = []
-spelled (suc n) s = getD s 0 0 ∷ spelled n (drop 1 s)
-
--- A row is its elements. Rewritten so, what is defined on rows computes.
-pub spell : (n : ℕ) (s : List ℕ) → length s ≡ n → s ≡ spelled n s
-unfolding spelled
-spell zero [] h = refl
-spell zero (x ∷ s) h = let z : ⊥ = omega arith in absurd z
-spell (suc n) [] h = let z : ⊥ = omega arith in absurd z
-spell (suc n) (x ∷ s) h = ap (λ (t : List ℕ). x ∷ t) (spell n s (omega arith))
 
 -- The rounds, at least one of which is left: the first, and the rest.
 pub rounds-step : (p : ℕ) (f g : ℕ → ℕ → ℕ) (n : ℕ) (w : List ℕ) (i : ℕ) (s : List ℕ) → 0 < n →

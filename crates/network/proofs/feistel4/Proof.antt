@@ -1,7 +1,7 @@
 -- `network::feistel4` meets its contract.
 use borrow.Author.Needs.{needs}
 use Rattle.clefia_spec.specs.Network.{feistel}
-use Rattle.network.specs.Laws.{spelled, spell}
+use Rattle.rows.specs.Rows.{spelled, spell}
 use Rattle.network.proofs.feistel4.Statement.{statement}
 use Rattle.network.proofs.feistel4.Tie as tie
 

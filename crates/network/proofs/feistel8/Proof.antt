@@ -2,7 +2,7 @@
 use native.Mathlib.Nat.{add-assoc}
 use borrow.Author.Needs.{needs}
 use Rattle.clefia_spec.specs.Network.{feistel}
-use Rattle.network.specs.Laws.{spelled, spell}
+use Rattle.rows.specs.Rows.{spelled, spell}
 use Rattle.network.proofs.feistel8.Statement.{statement}
 use Rattle.network.proofs.feistel8.Tie as tie
 

@@ -1,7 +1,7 @@
 -- `network::rotate_right4` meets its contract.
 use borrow.Author.Needs.{needs}
 use Rattle.clefia_spec.specs.Network.{rotateBranches}
-use Rattle.network.specs.Laws.{spelled, spell}
+use Rattle.rows.specs.Rows.{spelled, spell}
 use Rattle.network.proofs.rotate_right4.Statement.{statement}
 use Rattle.network.proofs.rotate_right4.Tie as tie
 

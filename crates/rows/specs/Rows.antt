@@ -1,0 +1,76 @@
+-- Rows of a known length, and four elements that stand or are put at a place of a row.
+use Prim.Native.Nat.{ℕ, zero, suc, _+_, _-_, _*_, _≤_, _<_}
+use mathlib.Core.Path.{_≡_, refl, sym, _∙_, ap}
+use mathlib.Core.List.{List, [], _∷_, _++_, append-assoc, append-nil}
+use native.Mathlib.Nat.{add-assoc}
+use native.Mathlib.Numerals.{add-one, towards-suc}
+use native.Mathlib.Omega.{arith}
+use lib.ListN.{length, getD, set, take, drop, length-append, length-take, length-drop}
+use lib.Seq.{sets, sets-eq, take-all, take-at, drop-cons, drop-drop, length-take-le}
+use Rattle.clefia_spec.specs.Words.{fromDigits, toDigits, digitsOf, numbersOf, bytesOf, wordsOf, fourAt}
+
+-- The first n elements of a row, each written out.
+unfoldable pub spelled : ℕ → List ℕ → List ℕ
+spelled zero s = []
+spelled (suc n) s = getD s 0 0 ∷ spelled n (drop 1 s)
+
+-- A row is its elements. Rewritten so, what is defined on rows computes.
+pub spell : (n : ℕ) (s : List ℕ) → length s ≡ n → s ≡ spelled n s
+unfolding spelled
+spell zero [] h = refl
+spell zero (x ∷ s) h = let z : ⊥ = omega arith in absurd z
+spell (suc n) [] h = let z : ⊥ = omega arith in absurd z
+spell (suc n) (x ∷ s) h = ap (λ (t : List ℕ). x ∷ t) (spell n s (omega arith))
+
+-- Four elements that stand at a place.
+pub four-at : (s : List ℕ) (i : ℕ) → i + 4 ≤ length s → take 4 (drop i s) ≡ fourAt s i
+unfolding fourAt
+four-at s i h =
+    simp (
+      towards-suc,
+      drop-cons s i 0 (omega arith),
+      drop-cons s (suc i) 0 (omega arith),
+      drop-cons s (suc (suc i)) 0 (omega arith),
+      drop-cons s (suc (suc (suc i))) 0 (omega arith),
+    )
+
+-- Four elements put at a place: p in front of the place, and all else as it was.
+unfoldable pub putFour : List ℕ → ℕ → List ℕ → List ℕ
+putFour s i p = take i s ++ p ++ drop (i + 4) s
+
+-- Four stores, one after the other, put four elements.
+pub four-stores : (s : List ℕ) (i a b c d : ℕ) → i + 4 ≤ length s →
+    set (set (set (set s i a) (i + 1) b) (i + 2) c) (i + 3) d ≡ putFour s i (a ∷ b ∷ c ∷ d ∷ [])
+unfolding putFour
+four-stores s i a b c d h = simp towards-suc (simp towards-suc at (sets-eq (a ∷ b ∷ c ∷ d ∷ []) s i h))
+
+-- What has been put up to the end of four elements.
+pub take-putFour : (s : List ℕ) (i : ℕ) (p : List ℕ) → length p ≡ 4 → i + 4 ≤ length s → take (i + 4) (putFour s i p) ≡ take i s ++ p
+unfolding putFour
+take-putFour s i p e h = take-at (take i s ++ p) (drop (i + 4) s) (i + 4) (length-append (take i s) p ∙ omega (arith, length-take-le i s (omega arith)))
+
+pub length-putFour : (s : List ℕ) (i : ℕ) (p : List ℕ) → length p ≡ 4 → i + 4 ≤ length s → length (putFour s i p) ≡ length s
+unfolding putFour
+length-putFour s i p e h = simp (length-append, length-take, length-drop) (omega arith)
+
+-- A row is filled four elements at a time: what has been filled up to i, and what is to follow, make the whole.
+pub fill-four : (s : List ℕ) (i : ℕ) (p rest whole : List ℕ) → length p ≡ 4 → i + 4 ≤ length s →
+    take i s ++ (p ++ rest) ≡ whole → take (i + 4) (putFour s i p) ++ rest ≡ whole
+fill-four s i p rest whole e h w = rw (take-putFour s i p e h, append-assoc) w
+
+pub fill-end : (s : List ℕ) (i : ℕ) (whole : List ℕ) → length s ≤ i → take i s ++ [] ≡ whole → s ≡ whole
+fill-end s i whole h w = sym (take-all i s h) ∙ sym (append-nil (take i s)) ∙ w
+
+-- The bytes of a row from place i on: those of the word there, and of the rest.
+pub bytes-step : (s : List ℕ) (i : ℕ) → i < length s → bytesOf (drop i s) ≡ toDigits 256 4 (getD s i 0) ++ bytesOf (drop (i + 1) s)
+unfolding digitsOf
+bytes-step s i h = rw (add-one, drop-cons s i 0)
+
+-- The word at place i of a row of bytes.
+unfoldable pub wordAt : List ℕ → ℕ → ℕ
+wordAt s i = fromDigits 256 (take 4 (drop i s))
+
+-- Four words that follow each other, each at its place.
+pub four-words : (s : List ℕ) (i : ℕ) → wordsOf 4 (drop i s) ≡ wordAt s i ∷ wordAt s (i + 4) ∷ wordAt s (i + 8) ∷ wordAt s (i + 12) ∷ []
+unfolding wordAt numbersOf
+four-words s i = simp (drop-drop, add-assoc)

@@ -1,0 +1,79 @@
+// Words read from bytes and written as bytes, the first byte highest.
+ghost use mathlib.Core.Path.{_≡_};
+ghost use mathlib.Core.List.{[], _∷_};
+ghost use Prim.Native.Nat.{_+_, _*_, _≤_};
+ghost use lib.ListN.{length, take, drop};
+ghost use Rattle.clefia_spec.specs.Words.{fromDigits, toDigits, bytesOf, wordsOf};
+ghost use Rattle.rows.specs.Rows.{putFour};
+
+fn join(a: u8, b: u8, c: u8, d: u8) -> u32
+    ensures { λ r. ⌜ r ≡ fromDigits 256 (a ∷ b ∷ c ∷ d ∷ []) ⌝ }
+{
+    a as u32 * 16777216 + b as u32 * 65536 + c as u32 * 256 + d as u32
+}
+
+// The word that stands at `at`.
+pub fn word(src: &[u8], at: usize) -> u32
+    requires { ⌜ at + 4 ≤ length (now src) ⌝ }
+    ensures { λ r. ⌜ r ≡ fromDigits 256 (take 4 (drop at (now (src .entry)))) ⌝ }
+{
+    join(src[at], src[at + 1], src[at + 2], src[at + 3])
+}
+
+// The four words that stand at `at`.
+pub fn load(src: &[u8], at: usize) -> [u32; 4]
+    requires { ⌜ at + 16 ≤ length (now src) ⌝ }
+    ensures { λ r. ⌜ r ≡ wordsOf 4 (drop at (now (src .entry))) ⌝ }
+{
+    [
+        word(src, at),
+        word(src, at + 4),
+        word(src, at + 8),
+        word(src, at + 12),
+    ]
+}
+
+// A word written at `at`.
+pub fn put_word(dst: &mut [u8], at: usize, x: u32)
+    requires { ⌜ at + 4 ≤ length (now dst) ⌝ }
+    ensures { λ r. ⌜ now (dst .exit) ≡ putFour (now (dst .entry)) at (toDigits 256 4 x) ⌝ }
+{
+    dst[at] = (x / 16777216 % 256) as u8;
+    dst[at + 1] = (x / 65536 % 256) as u8;
+    dst[at + 2] = (x / 256 % 256) as u8;
+    dst[at + 3] = (x % 256) as u8;
+}
+
+// Four words written into 16 bytes.
+pub fn store(dst: &mut [u8], s: [u32; 4])
+    requires { ⌜ length (now dst) ≡ 16 ⌝ }
+    ensures { λ r. ⌜ now (dst .exit) ≡ bytesOf s ⌝ }
+{
+    put_word(dst, 0, s[0]);
+    put_word(dst, 4, s[1]);
+    put_word(dst, 8, s[2]);
+    put_word(dst, 12, s[3]);
+}
+
+// Every word of a row written into four times as many bytes.
+pub fn store_all(dst: &mut [u8], src: &[u32])
+    requires { ⌜ length (now dst) ≡ 4 * length (now src) ⌝ }
+    ensures { λ r. ⌜ now (dst .exit) ≡ bytesOf (now (src .entry)) ⌝ }
+{
+    let mut i = 0;
+    while i < src.len() {
+        put_word(dst, 4 * i, src[i]);
+        i += 1;
+    }
+}
+
+// Four words put at `at` of a row.
+pub fn put_four(dst: &mut [u32], at: usize, s: [u32; 4])
+    requires { ⌜ at + 4 ≤ length (now dst) ⌝ }
+    ensures { λ r. ⌜ now (dst .exit) ≡ putFour (now (dst .entry)) at s ⌝ }
+{
+    dst[at] = s[0];
+    dst[at + 1] = s[1];
+    dst[at + 2] = s[2];
+    dst[at + 3] = s[3];
+}
