@@ -2,7 +2,7 @@
 use Prim.Native.Nat.{ℕ, zero, suc, _+_, _-_, _*_, _≤_, _<_}
 use mathlib.Core.Path.{_≡_, refl, sym, _∙_, ap}
 use mathlib.Core.List.{List, [], _∷_, _++_, append-assoc, append-nil}
-use native.Mathlib.Nat.{add-assoc}
+use native.Mathlib.Nat.{add-assoc, mul-add}
 use native.Mathlib.Numerals.{add-one, towards-suc}
 use native.Mathlib.Omega.{arith}
 use lib.ListN.{length, getD, set, take, drop, length-append, length-take, length-drop}
@@ -74,3 +74,27 @@ wordAt s i = fromDigits 256 (take 4 (drop i s))
 pub four-words : (s : List ℕ) (i : ℕ) → wordsOf 4 (drop i s) ≡ wordAt s i ∷ wordAt s (i + 4) ∷ wordAt s (i + 8) ∷ wordAt s (i + 12) ∷ []
 unfolding wordAt numbersOf
 four-words s i = simp (drop-drop, add-assoc)
+
+-- The word at place j of a row of words, by its bytes.
+pub getD-words : (n : ℕ) (s : List ℕ) (j : ℕ) → j < n → getD (wordsOf n s) j 0 ≡ wordAt s (4 * j)
+unfolding wordAt numbersOf
+getD-words zero s j h = let z : ⊥ = omega arith in absurd z
+getD-words (suc n) s zero h = refl
+getD-words (suc n) s (suc j) h =
+    getD-words n (drop 4 s) j (omega arith)
+    ∙ let e : 4 + 4 * j ≡ 4 * suc j = omega arith in rw (drop-drop, e)
+
+-- Four words of a row of words, by their bytes.
+pub fourAt-words : (n : ℕ) (s : List ℕ) (i : ℕ) → i + 4 ≤ n → fourAt (wordsOf n s) i ≡ wordsOf 4 (drop (4 * i) s)
+unfolding fourAt
+fourAt-words n s i h =
+    rw (
+      four-words s (4 * i),
+      getD-words n s i (omega arith),
+      getD-words n s (i + 1) (omega arith),
+      getD-words n s (i + 2) (omega arith),
+      getD-words n s (i + 3) (omega arith),
+      mul-add,
+      mul-add,
+      mul-add,
+    )

@@ -1,0 +1,68 @@
+-- `schedule::expand_long` meets its contract.
+use mathlib.Core.Path.{_∙_}
+use borrow.Author.Needs.{needs}
+use Rattle.clefia_spec.specs.KeySchedule.{expandLong}
+use Rattle.rows.specs.Rows.{take-putFour}
+use Rattle.schedule.specs.Steps.{half}
+use Rattle.schedule.proofs.expand_long.Statement.{statement}
+use Rattle.schedule.proofs.expand_long.Tie as tie
+
+joined-requires : tie.Need-joined-requires
+joined-requires c κs = search needs
+
+network8-requires : tie.Need-network8-requires
+network8-requires c κs = search needs
+
+xors4-requires : tie.Need-xors4-requires
+xors4-requires c κs = search needs
+
+put-four-requires : tie.Need-put-four-requires
+put-four-requires c κs = search needs
+
+first-half-requires : tie.Need-first-half-requires
+first-half-requires c κs = search needs
+
+second-half-requires : tie.Need-second-half-requires
+second-half-requires c κs = search needs
+
+round-keys-requires : tie.Need-round-keys-requires
+round-keys-requires c κs =
+    let p : tie.After-put-four = c .before .before .before .before .before in
+    (half, (search needs, p .put-four .kept .0 ∙ p .before .before .before .before .before .before .before .pre .1 .1))
+
+same-length : tie.Need-same-length
+same-length c = search needs
+
+returns : tie.Need-returns
+unfolding expandLong
+returns c =
+    let r : tie.After-round-keys = c .before .before in
+    let h : tie.After-second-half = r .before .before in
+    let p : tie.After-put-four = h .before .before .before .before in
+    let x : tie.After-xors4 = p .before in
+    let l : tie.After-network8 = x .before .before in
+    let s : tie.Start = l .before .before .before .before in
+    rw (
+      r .round-keys .ensures,
+      p .put-four .ensures,
+      take-putFour (s .args .w .now) 0 (x .xors4 .result) (x .xors4 .ok .1 .0 .1) (search needs),
+      x .xors4 .ensures,
+      h .second-half .ensures,
+      h .before .first-half .ensures,
+      l .network8 .ensures,
+      l .before .joined .ensures,
+    )
+
+pub expand-long-spec : {M : Type 1} → statement M
+expand-long-spec =
+    tie.close
+    (tie.spec
+    joined-requires
+    network8-requires
+    xors4-requires
+    put-four-requires
+    first-half-requires
+    second-half-requires
+    round-keys-requires
+    same-length
+    returns)

@@ -1,0 +1,60 @@
+-- `schedule::expand_short` meets its contract.
+use mathlib.Core.Path.{_∙_}
+use borrow.Author.Needs.{needs}
+use Rattle.clefia_spec.specs.KeySchedule.{expandShort}
+use Rattle.rows.specs.Rows.{take-putFour}
+use Rattle.schedule.specs.Steps.{all}
+use Rattle.schedule.proofs.expand_short.Statement.{statement}
+use Rattle.schedule.proofs.expand_short.Tie as tie
+
+sixteen-requires : tie.Need-sixteen-requires
+sixteen-requires c κs = search needs
+
+slice-aggregate-network4 : tie.Need-slice-aggregate-network4
+slice-aggregate-network4 c = search needs
+
+network4-requires : tie.Need-network4-requires
+network4-requires c κs = search needs
+
+put-four-requires : tie.Need-put-four-requires
+put-four-requires c κs = search needs
+
+slice-aggregate-round-keys : tie.Need-slice-aggregate-round-keys
+slice-aggregate-round-keys c = search needs
+
+round-keys-requires : tie.Need-round-keys-requires
+round-keys-requires c κs =
+    let p : tie.After-put-four = c .before .before .before .before in
+    (all, (search needs, p .put-four .kept .0 ∙ p .before .before .before .before .before .before .pre .1))
+
+same-length : tie.Need-same-length
+same-length c = search needs
+
+returns : tie.Need-returns
+unfolding expandShort
+returns c =
+    let r : tie.After-round-keys = c .before .before in
+    let p : tie.After-put-four = r .before .before .before .before .before in
+    let l : tie.After-network4 = p .before .before in
+    let o : tie.After-sixteen = l .before .before in
+    let s : tie.Start = o .before .before in
+    rw (
+      r .round-keys .ensures,
+      p .put-four .ensures,
+      take-putFour (s .args .w .now) 0 (s .args .k) (s .good .1 .1 .1 .0 .1 .0 .1) (search needs),
+      l .network4 .ensures,
+      o .sixteen .ensures,
+    )
+
+pub expand-short-spec : {M : Type 1} → statement M
+expand-short-spec =
+    tie.close
+    (tie.spec
+    sixteen-requires
+    slice-aggregate-network4
+    network4-requires
+    put-four-requires
+    slice-aggregate-round-keys
+    round-keys-requires
+    same-length
+    returns)

@@ -1,0 +1,3 @@
+pub mod Swap
+pub mod Steps
+pub mod Keys

@@ -1,0 +1,187 @@
+// The key schedule: the constants, DoubleSwap, and the expanded key of a key of 16, 24 or 32 bytes.
+pub mod constants;
+
+ghost use mathlib.Core.Path.{_≡_};
+ghost use mathlib.Core.List.{_++_};
+ghost use Prim.Native.Nat.{_+_, _*_, _/_, _≤_};
+ghost use lib.ListN.{length, take, drop};
+ghost use Rattle.clefia_spec.specs.Words.{xors, fourAt, wordsOf, byKeyLength, KeyLength};
+ghost use Rattle.clefia_spec.specs.KeySchedule.{doubleSwap, stepKeys, roundKeys, expandShort, expandLong, extendKey, expandKey};
+ghost use Rattle.rows.specs.Rows.{putFour};
+ghost use Rattle.schedule.specs.Steps.{Own};
+ghost use Rattle.ffunction.specs.Tables.{Lent};
+
+// The bits of four words in another order: 7 to 63, 121 to 127, 0 to 6, 64 to 120.
+fn double_swap(x: [u32; 4]) -> [u32; 4]
+    ensures { λ r. ⌜ r ≡ doubleSwap x ⌝ }
+{
+    [
+        x[0] % 33554432 * 128 + x[1] / 33554432 % 128,
+        x[1] % 33554432 * 128 + x[3] % 128,
+        x[0] / 33554432 % 128 * 33554432 + x[2] / 128 % 33554432,
+        x[2] % 128 * 33554432 + x[3] / 128 % 33554432,
+    ]
+}
+
+fn xors4(a: [u32; 4], b: [u32; 4]) -> [u32; 4]
+    ensures { λ r. ⌜ r ≡ xors a b ⌝ }
+{
+    [a[0] ^ b[0], a[1] ^ b[1], a[2] ^ b[2], a[3] ^ b[3]]
+}
+
+fn four_at(w: &[u32], at: usize) -> [u32; 4]
+    requires { ⌜ at + 4 ≤ length (now w) ⌝ }
+    ensures { λ r. ⌜ r ≡ fourAt (now (w .entry)) at ⌝ }
+{
+    [w[at], w[at + 1], w[at + 2], w[at + 3]]
+}
+
+// The four round keys of step i, with the constants at `at`.
+fn step_keys(i: usize, con: &[u32], at: usize, k: [u32; 4], l: [u32; 4]) -> [u32; 4]
+    requires { ⌜ at + 4 ≤ length (now con) ⌝ }
+    ensures { λ r. ⌜ r ≡ stepKeys i (fourAt (now (con .entry)) at) k l ⌝ }
+{
+    let m = xors4(four_at(con, at), l);
+    if i % 2 == 1 {
+        return xors4(k, m);
+    }
+    m
+}
+
+// Step i: its round keys written behind the first four words and those of the steps before, and the l that follows.
+fn step(i: usize, base: usize, con: &[u32], k: [u32; 4], l: [u32; 4], w: &mut [u32]) -> [u32; 4]
+    requires { ⌜ (base + 4 * i + 4 ≤ length (now con)) × (4 + 4 * i + 4 ≤ length (now w)) ⌝ }
+    ensures { λ r. ⌜ r ≡ doubleSwap l ⌝ }
+    ensures { λ r. ⌜ now (w .exit) ≡ putFour (now (w .entry)) (4 + 4 * i) (stepKeys i (fourAt (now (con .entry)) (base + 4 * i)) k l) ⌝ }
+{
+    rows::put_four(w, 4 + 4 * i, step_keys(i, con, base + 4 * i, k, l));
+    double_swap(l)
+}
+
+// The round keys of n steps, written behind the first four words. Of every four steps the first `own` use k and l, the others k2 and l2.
+fn round_keys(
+    own: usize,
+    base: usize,
+    con: &[u32],
+    n: usize,
+    k: [u32; 4],
+    k2: [u32; 4],
+    l: [u32; 4],
+    l2: [u32; 4],
+    w: &mut [u32],
+)
+    requires { ⌜ Own own ⌝ }
+    requires { ⌜ base + 4 * n ≤ length (now con) ⌝ }
+    requires { ⌜ length (now w) ≡ 4 + 4 * n ⌝ }
+    ensures { λ r. ⌜ now (w .exit) ≡ take 4 (now (w .entry)) ++ roundKeys (8 / own) base (now (con .entry)) n 0 k k2 l l2 ⌝ }
+{
+    let mut a = l;
+    let mut b = l2;
+    let mut i = 0;
+    while i < n {
+        if i % 4 < own {
+            let next = step(i, base, con, k, a, w);
+            a = next;
+            i += 1;
+        } else {
+            let next = step(i, base, con, k2, b, w);
+            b = next;
+            i += 1;
+        }
+    }
+}
+
+// A key of four words.
+fn expand_short(
+    way: u64,
+    words: &[[u32; 256]; 8],
+    bytes: &[[u8; 256]; 2],
+    k: [u32; 4],
+    w: &mut [u32],
+)
+    requires { ⌜ Lent way (now words) (now bytes) ⌝ }
+    requires { ⌜ length (now w) ≡ 40 ⌝ }
+    ensures { λ r. ⌜ now (w .exit) ≡ expandShort k ⌝ }
+{
+    let con = constants::sixteen();
+    let l = network::network4(way, words, bytes, &con, 12, 0, k);
+    rows::put_four(w, 0, k);
+    round_keys(4, 24, &con, 9, k, k, l, l, w);
+}
+
+fn joined(a: [u32; 4], b: [u32; 4]) -> [u32; 8]
+    ensures { λ r. ⌜ r ≡ a ++ b ⌝ }
+{
+    [a[0], a[1], a[2], a[3], b[0], b[1], b[2], b[3]]
+}
+
+fn first_half(s: [u32; 8]) -> [u32; 4]
+    ensures { λ r. ⌜ r ≡ take 4 s ⌝ }
+{
+    [s[0], s[1], s[2], s[3]]
+}
+
+fn second_half(s: [u32; 8]) -> [u32; 4]
+    ensures { λ r. ⌜ r ≡ drop 4 s ⌝ }
+{
+    [s[4], s[5], s[6], s[7]]
+}
+
+// KL and KR of a longer key, its constants and its number of steps.
+fn expand_long(
+    way: u64,
+    words: &[[u32; 256]; 8],
+    bytes: &[[u8; 256]; 2],
+    con: &[u32],
+    n: usize,
+    kl: [u32; 4],
+    kr: [u32; 4],
+    w: &mut [u32],
+)
+    requires { ⌜ Lent way (now words) (now bytes) ⌝ }
+    requires { ⌜ 40 + 4 * n ≤ length (now con) ⌝ }
+    requires { ⌜ length (now w) ≡ 4 + 4 * n ⌝ }
+    ensures { λ r. ⌜ now (w .exit) ≡ expandLong (now (con .entry)) n kl kr ⌝ }
+{
+    let l = network::network8(way, words, bytes, con, 10, 0, joined(kl, kr));
+    rows::put_four(w, 0, xors4(kl, kr));
+    round_keys(2, 40, con, n, kr, kl, first_half(l), second_half(l), w);
+}
+
+// KR of a key of 24 bytes: its last two words, and its first two inverted.
+fn extend_key(key: &[u8]) -> [u32; 4]
+    requires { ⌜ length (now key) ≡ 24 ⌝ }
+    ensures { λ r. ⌜ r ≡ extendKey (wordsOf 6 (now (key .entry))) ⌝ }
+{
+    [
+        rows::word(key, 16),
+        rows::word(key, 20),
+        4294967295 - rows::word(key, 0),
+        4294967295 - rows::word(key, 4),
+    ]
+}
+
+// The expanded key of a key of 16, 24 or 32 bytes.
+pub fn expand_key(
+    way: u64,
+    words: &[[u32; 256]; 8],
+    bytes: &[[u8; 256]; 2],
+    key: &[u8],
+    w: &mut [u32],
+)
+    requires { ⌜ Lent way (now words) (now bytes) ⌝ }
+    requires { ⌜ KeyLength (length (now key)) ⌝ }
+    requires { ⌜ length (now w) ≡ byKeyLength (length (now key)) 40 48 56 ⌝ }
+    ensures { λ r. ⌜ now (w .exit) ≡ expandKey (now (key .entry)) ⌝ }
+{
+    let k = rows::load(key, 0);
+    if key.len() == 16 {
+        expand_short(way, words, bytes, k, w);
+    } else if key.len() == 24 {
+        let con = constants::twenty_four();
+        expand_long(way, words, bytes, &con, 11, k, extend_key(key), w);
+    } else {
+        let con = constants::thirty_two();
+        expand_long(way, words, bytes, &con, 13, k, rows::load(key, 16), w);
+    }
+}
