@@ -1,0 +1,28 @@
+-- `block::encrypt_block` meets its contract.
+use borrow.Author.Needs.{needs}
+use Rattle.clefia_spec.specs.Block.{encryptUnder}
+use Rattle.block.proofs.encrypt_block.Statement.{statement}
+use Rattle.block.proofs.encrypt_block.Tie as tie
+
+load-requires : tie.Need-load-requires
+load-requires c κs = search needs
+
+encrypt-words-requires : tie.Need-encrypt-words-requires
+encrypt-words-requires c κs = search needs
+
+store-requires : tie.Need-store-requires
+store-requires c κs = search needs
+
+same-length : tie.Need-same-length
+same-length c = search needs
+
+returns : tie.Need-returns
+unfolding encryptUnder
+returns c =
+    let s : tie.After-store = c .before .before in
+    let e : tie.After-encrypt-words = s .before in
+    rw (s .store .ensures, e .encrypt-words .ensures, e .before .load .ensures)
+
+pub encrypt-block-spec : {M : Type 1} → statement M
+encrypt-block-spec =
+    tie.close (tie.spec load-requires encrypt-words-requires store-requires same-length returns)
