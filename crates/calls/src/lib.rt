@@ -1,0 +1,179 @@
+// The calls as the rest of the program sees them: checks 1 to 4, the tables fetched, the key expanded, the core called. The answer is an enum.
+ghost use mathlib.Core.Path.{_≡_};
+ghost use mathlib.Core.Bool.{_||_};
+ghost use mathlib.Core.List.{[], _∷_};
+ghost use lib.Dec.{eqb};
+ghost use lib.ListN.{length};
+ghost use Prim.Native.Nat.{_*_, _≤_};
+ghost use Rattle.clefia_spec.specs.Words.{bytesOf, byKeyLength, KeyLength};
+ghost use Rattle.clefia_spec.specs.KeySchedule.{expandKey};
+ghost use Rattle.ffunction.specs.Tables.{wordTables, byteTables, Lent};
+ghost use Rattle.planbook_spec.specs.Outcome.{accepted, judged};
+ghost use Rattle.planbook_spec.specs.Checks.{outputCheck, expandedCount, constantsCall, expandKeyCall, encryptBlockCall, decryptBlockCall};
+ghost use Rattle.answer.specs.Answer.{Given};
+ghost use Rattle.calls.specs.CallLaws.{codedBlock, blockCall};
+use answer::Answer;
+
+// A number is one of three, compared whole.
+fn one_of(n: u64, a: u64, b: u64, c: u64) -> bool
+    ensures { λ r. ⌜ r ≡ (eqb n a || eqb n b || eqb n c) ⌝ }
+{
+    if n == a {
+        return true;
+    }
+    if n == b {
+        return true;
+    }
+    n == c
+}
+
+// Check 4, and then the words as bytes; the count is that of the words.
+fn write_words(src: &[u32], out: &mut [u8]) -> Answer
+    requires { ⌜ length (now src) ≤ 92 ⌝ }
+    ensures { λ r. ⌜ Given (judged (outputCheck (4 * length (now (src .entry))) (now (out .entry)) ∷ []) (accepted (length (now (src .entry))) (bytesOf (now (src .entry))))) (now (out .entry)) r (now (out .exit)) ⌝ }
+{
+    if out.len() != 4 * src.len() {
+        return Answer::Refused(4);
+    }
+    rows::store_all(out, src);
+    Answer::Accepted(src.len() as u64)
+}
+
+pub fn constants(size: u64, out: &mut [u8]) -> Answer
+    ensures { λ r. ⌜ Given (constantsCall size (now (out .entry))) (now (out .entry)) r (now (out .exit)) ⌝ }
+{
+    if size == 16 {
+        return write_words(&schedule::constants::sixteen(), out);
+    }
+    if size == 24 {
+        return write_words(&schedule::constants::twenty_four(), out);
+    }
+    if size == 32 {
+        return write_words(&schedule::constants::thirty_two(), out);
+    }
+    Answer::Refused(1)
+}
+
+// The word tables where the way reads them, else words that nobody reads.
+fn words_for(way: u64) -> [[u32; 256]; 8]
+    ensures { λ r. ⌜ (way ≡ 2 → r ≡ wordTables) ⌝ }
+{
+    if way == 2 {
+        return ffunction::tables::word_tables();
+    }
+    [[0u32; 256]; 8]
+}
+
+// The byte tables where the way reads them.
+fn bytes_for(way: u64) -> [[u8; 256]; 2]
+    ensures { λ r. ⌜ (way ≡ 1 → r ≡ byteTables) ⌝ }
+{
+    if way == 1 {
+        return sbox::tables::byte_tables();
+    }
+    [[0u8; 256]; 2]
+}
+
+// The key expanded into w; then check 4, and the words as bytes.
+fn expand_into(
+    way: u64,
+    words: &[[u32; 256]; 8],
+    bytes: &[[u8; 256]; 2],
+    key: &[u8],
+    w: &mut [u32],
+    out: &mut [u8],
+) -> Answer
+    requires { ⌜ Lent way (now words) (now bytes) ⌝ }
+    requires { ⌜ KeyLength (length (now key)) ⌝ }
+    requires { ⌜ length (now w) ≡ byKeyLength (length (now key)) 40 48 56 ⌝ }
+    ensures { λ r. ⌜ Given (judged (outputCheck (4 * expandedCount (length (now (key .entry)))) (now (out .entry)) ∷ []) (accepted (expandedCount (length (now (key .entry)))) (bytesOf (expandKey (now (key .entry)))))) (now (out .entry)) r (now (out .exit)) ⌝ }
+{
+    schedule::expand_key(way, words, bytes, key, w);
+    write_words(w, out)
+}
+
+pub fn expand_key(key: &[u8], way: u64, out: &mut [u8]) -> Answer
+    ensures { λ r. ⌜ Given (expandKeyCall (now (key .entry)) way (now (out .entry))) (now (out .entry)) r (now (out .exit)) ⌝ }
+{
+    if !one_of(key.len() as u64, 16, 24, 32) {
+        return Answer::Refused(1);
+    }
+    if !one_of(way, 1, 2, 3) {
+        return Answer::Refused(2);
+    }
+    let n = 24 + key.len();
+    let words = words_for(way);
+    let bytes = bytes_for(way);
+    let mut w = [0u32; 56];
+    expand_into(way, &words, &bytes, key, &mut w[..n], out)
+}
+
+// The key expanded into w, and one block decrypted or encrypted.
+fn block_into(
+    decrypting: bool,
+    way: u64,
+    words: &[[u32; 256]; 8],
+    bytes: &[[u8; 256]; 2],
+    key: &[u8],
+    w: &mut [u32],
+    block: &[u8],
+    out: &mut [u8],
+)
+    requires { ⌜ Lent way (now words) (now bytes) ⌝ }
+    requires { ⌜ KeyLength (length (now key)) ⌝ }
+    requires { ⌜ length (now w) ≡ byKeyLength (length (now key)) 40 48 56 ⌝ }
+    requires { ⌜ (length (now block) ≡ 16) × (length (now out) ≡ 16) ⌝ }
+    ensures { λ r. ⌜ now (out .exit) ≡ codedBlock decrypting (now (key .entry)) (now (block .entry)) ⌝ }
+{
+    schedule::expand_key(way, words, bytes, key, w);
+    if decrypting {
+        block::decrypt_block(way, words, bytes, w, block, out);
+        return;
+    }
+    block::encrypt_block(way, words, bytes, w, block, out);
+}
+
+// Both block calls, whose checks are the same.
+fn block_call(decrypting: bool, key: &[u8], way: u64, block: &[u8], out: &mut [u8]) -> Answer
+    ensures { λ r. ⌜ Given (blockCall decrypting (now (key .entry)) way (now (block .entry)) (now (out .entry))) (now (out .entry)) r (now (out .exit)) ⌝ }
+{
+    if !one_of(key.len() as u64, 16, 24, 32) {
+        return Answer::Refused(1);
+    }
+    if !one_of(way, 1, 2, 3) {
+        return Answer::Refused(2);
+    }
+    if block.len() != 16 {
+        return Answer::Refused(3);
+    }
+    if out.len() != 16 {
+        return Answer::Refused(4);
+    }
+    let n = 24 + key.len();
+    let words = words_for(way);
+    let bytes = bytes_for(way);
+    let mut w = [0u32; 56];
+    block_into(
+        decrypting,
+        way,
+        &words,
+        &bytes,
+        key,
+        &mut w[..n],
+        block,
+        out,
+    );
+    Answer::Accepted(1)
+}
+
+pub fn encrypt_block(key: &[u8], way: u64, block: &[u8], out: &mut [u8]) -> Answer
+    ensures { λ r. ⌜ Given (encryptBlockCall (now (key .entry)) way (now (block .entry)) (now (out .entry))) (now (out .entry)) r (now (out .exit)) ⌝ }
+{
+    block_call(false, key, way, block, out)
+}
+
+pub fn decrypt_block(key: &[u8], way: u64, block: &[u8], out: &mut [u8]) -> Answer
+    ensures { λ r. ⌜ Given (decryptBlockCall (now (key .entry)) way (now (block .entry)) (now (out .entry))) (now (out .entry)) r (now (out .exit)) ⌝ }
+{
+    block_call(true, key, way, block, out)
+}
