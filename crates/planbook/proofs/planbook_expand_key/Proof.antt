@@ -1,0 +1,20 @@
+-- `planbook::planbook_expand_key` meets its contract: the number of the answer, and the output, of the call below.
+use borrow.Author.Needs.{needs}
+use Rattle.answer.specs.Answer.{answers}
+use Rattle.planbook.proofs.planbook_expand_key.Statement.{statement}
+use Rattle.planbook.proofs.planbook_expand_key.Tie as tie
+
+expand-key-requires : tie.Need-expand-key-requires
+expand-key-requires c κs = search needs
+
+number-requires : tie.Need-number-requires
+number-requires c κs = search needs
+
+same-length : tie.Need-same-length
+same-length c = search needs
+
+returns : tie.Need-returns
+returns c = answers (c .before .before .before .expand-key .ensures) (c .number .ensures)
+
+pub planbook-expand-key-spec : {M : Type 1} → statement M
+planbook-expand-key-spec = tie.close (tie.spec expand-key-requires number-requires same-length returns)

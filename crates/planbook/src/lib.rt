@@ -1,0 +1,31 @@
+// The border to C: each exported call turns the answer of the call below into the 64-bit number, and nothing else. No call has a precondition.
+ghost use Rattle.planbook_spec.specs.Outcome.{Answers};
+ghost use Rattle.planbook_spec.specs.Checks.{constantsCall, expandKeyCall, encryptBlockCall, decryptBlockCall};
+
+#[no_mangle]
+pub extern "C" fn planbook_constants(size: u64, out: &mut [u8]) -> u64
+    ensures { λ r. ⌜ Answers (constantsCall size (now (out .entry))) (now (out .entry)) r (now (out .exit)) ⌝ }
+{
+    answer::number(calls::constants(size, out))
+}
+
+#[no_mangle]
+pub extern "C" fn planbook_expand_key(key: &[u8], way: u64, out: &mut [u8]) -> u64
+    ensures { λ r. ⌜ Answers (expandKeyCall (now (key .entry)) way (now (out .entry))) (now (out .entry)) r (now (out .exit)) ⌝ }
+{
+    answer::number(calls::expand_key(key, way, out))
+}
+
+#[no_mangle]
+pub extern "C" fn planbook_encrypt_block(key: &[u8], way: u64, block: &[u8], out: &mut [u8]) -> u64
+    ensures { λ r. ⌜ Answers (encryptBlockCall (now (key .entry)) way (now (block .entry)) (now (out .entry))) (now (out .entry)) r (now (out .exit)) ⌝ }
+{
+    answer::number(calls::encrypt_block(key, way, block, out))
+}
+
+#[no_mangle]
+pub extern "C" fn planbook_decrypt_block(key: &[u8], way: u64, block: &[u8], out: &mut [u8]) -> u64
+    ensures { λ r. ⌜ Answers (decryptBlockCall (now (key .entry)) way (now (block .entry)) (now (out .entry))) (now (out .entry)) r (now (out .exit)) ⌝ }
+{
+    answer::number(calls::decrypt_block(key, way, block, out))
+}
