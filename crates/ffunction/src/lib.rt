@@ -6,6 +6,8 @@ ghost use mathlib.Core.List.{[], _∷_};
 ghost use Prim.Native.Nat.{_-_, _<_};
 ghost use lib.ListN.{getD};
 use gf256::product;
+use sbox::by_rule;
+use sbox::by_table;
 ghost use Rattle.clefia_spec.specs.Words.{_⊕_, fromDigits, toDigits};
 ghost use Rattle.clefia_spec.specs.FFunction.{f0, f1, matrixTimes, substitute};
 ghost use Rattle.clefia_spec.specs.Field.{product};
@@ -33,18 +35,47 @@ fn by_words(words: &[[u32; 256]; 8], f: usize, z: u32) -> u32
         ^ column(words, f, 3, (z % 256) as usize)
 }
 
-// The four bytes of a word through the boxes by turns, beginning with box i.
+// Four bytes through the boxes by turns, beginning with box i: by the lent tables, and by the rules.
+fn by_tables(bytes: &[[u8; 256]; 2], i: usize, a: u8, b: u8, c: u8, d: u8) -> [u8; 4]
+    requires { ⌜ i < 2 ⌝ }
+    requires { ⌜ now bytes ≡ byteTables ⌝ }
+    ensures { λ r. ⌜ r ≡ box i a ∷ box (1 - i) b ∷ box i c ∷ box (1 - i) d ∷ [] ⌝ }
+{
+    [
+        by_table(bytes, i, a),
+        by_table(bytes, 1 - i, b),
+        by_table(bytes, i, c),
+        by_table(bytes, 1 - i, d),
+    ]
+}
+
+fn by_rules(i: usize, a: u8, b: u8, c: u8, d: u8) -> [u8; 4]
+    requires { ⌜ i < 2 ⌝ }
+    ensures { λ r. ⌜ r ≡ box i a ∷ box (1 - i) b ∷ box i c ∷ box (1 - i) d ∷ [] ⌝ }
+{
+    [
+        by_rule(i, a),
+        by_rule(1 - i, b),
+        by_rule(i, c),
+        by_rule(1 - i, d),
+    ]
+}
+
+// The same of the four bytes of a word, by way 1 or by any other.
 fn substitute(way: u64, bytes: &[[u8; 256]; 2], i: usize, z: u32) -> [u8; 4]
     requires { ⌜ i < 2 ⌝ }
     requires { ⌜ (way ≡ 1 → now bytes ≡ byteTables) ⌝ }
     ensures { λ r. ⌜ r ≡ substitute (box i) (box (1 - i)) (toDigits 256 4 z) ⌝ }
 {
-    [
-        sbox::substitute(way, bytes, i, (z / 16777216 % 256) as u8),
-        sbox::substitute(way, bytes, 1 - i, (z / 65536 % 256) as u8),
-        sbox::substitute(way, bytes, i, (z / 256 % 256) as u8),
-        sbox::substitute(way, bytes, 1 - i, (z % 256) as u8),
-    ]
+    let a = (z / 16777216 % 256) as u8;
+    let b = (z / 65536 % 256) as u8;
+    let c = (z / 256 % 256) as u8;
+    let d = (z % 256) as u8;
+    if way == 1 {
+        by_tables(bytes, i, a, b, c, d)
+    } else {
+        by_rules(i, a, b, c, d)
+    }
 }
 
 // A row of a matrix, a b c d, times four bytes.
@@ -79,24 +110,10 @@ fn by_bytes(way: u64, bytes: &[[u8; 256]; 2], f: usize, z: u32) -> u32
     requires { ⌜ (way ≡ 1 → now bytes ≡ byteTables) ⌝ }
     ensures { λ r. ⌜ r ≡ mix f z ⌝ }
 {
-    let y = substitute(way, bytes, f, z);
     if f == 0 {
-        matrix_times(0x01, 0x02, 0x04, 0x06, y)
+        matrix_times(0x01, 0x02, 0x04, 0x06, substitute(way, bytes, 0, z))
     } else {
-        matrix_times(0x01, 0x08, 0x02, 0x0a, y)
-    }
-}
-
-// F0 and F1 after the round key is added.
-fn mix(way: u64, words: &[[u32; 256]; 8], bytes: &[[u8; 256]; 2], f: usize, z: u32) -> u32
-    requires { ⌜ f < 2 ⌝ }
-    requires { ⌜ Lent way (now words) (now bytes) ⌝ }
-    ensures { λ r. ⌜ r ≡ mix f z ⌝ }
-{
-    if way == 2 {
-        by_words(words, f, z)
-    } else {
-        by_bytes(way, bytes, f, z)
+        matrix_times(0x01, 0x08, 0x02, 0x0a, substitute(way, bytes, 1, z))
     }
 }
 
@@ -104,12 +121,20 @@ pub fn f0(way: u64, words: &[[u32; 256]; 8], bytes: &[[u8; 256]; 2], k: u32, x: 
     requires { ⌜ Lent way (now words) (now bytes) ⌝ }
     ensures { λ r. ⌜ r ≡ f0 k x ⌝ }
 {
-    mix(way, words, bytes, 0, k ^ x)
+    if way == 2 {
+        by_words(words, 0, k ^ x)
+    } else {
+        by_bytes(way, bytes, 0, k ^ x)
+    }
 }
 
 pub fn f1(way: u64, words: &[[u32; 256]; 8], bytes: &[[u8; 256]; 2], k: u32, x: u32) -> u32
     requires { ⌜ Lent way (now words) (now bytes) ⌝ }
     ensures { λ r. ⌜ r ≡ f1 k x ⌝ }
 {
-    mix(way, words, bytes, 1, k ^ x)
+    if way == 2 {
+        by_words(words, 1, k ^ x)
+    } else {
+        by_bytes(way, bytes, 1, k ^ x)
+    }
 }

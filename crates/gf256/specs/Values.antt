@@ -1,6 +1,6 @@
 -- A function's values in a row, which is what a table of it holds.
-use Prim.Native.Nat.{ℕ, zero, suc, _+_, _<_}
-use native.Mathlib.Nat.{add-zero, zero-add, add-suc, suc-add, le-of-suc-le-suc, not-suc-le-zero}
+use Prim.Native.Nat.{ℕ, zero, suc, _+_, _<_, suc-le-suc}
+use native.Mathlib.Nat.{add-zero, zero-add, add-suc, suc-add, le-of-suc-le-suc, not-suc-le-zero, zero-lt-suc}
 use mathlib.Core.Path.{_≡_, refl, ap, sym, _∙_}
 use mathlib.Core.List.{List, [], _∷_}
 use lib.ListN.{getD}
@@ -19,3 +19,14 @@ valueFrom f i (suc n) (suc k) d h = valueFrom f (suc i) n k d (le-of-suc-le-suc 
 -- What stands at place k of the row.
 pub value {ℓ} : {A : Type ℓ} (f : ℕ → A) (n k : ℕ) (d : A) → k < n → getD (values f 0 n) k d ≡ f k
 value f n k d h = valueFrom f 0 n k d h ∙ ap f (zero-add k)
+
+-- Functions that agree at these arguments have the same values.
+valuesFrom-ext {ℓ} : {A : Type ℓ} (f g : ℕ → A) (i n : ℕ) → ((k : ℕ) → k < n → f (i + k) ≡ g (i + k)) → values f i n ≡ values g i n
+unfolding values
+valuesFrom-ext f g i zero h = refl
+valuesFrom-ext f g i (suc n) h =
+    let first : f i ≡ g i = rw (add-zero i) at (h zero (zero-lt-suc n)) in
+    rw (first, valuesFrom-ext f g (suc i) n (λ k l. rw (suc-add i k, ← add-suc i k) (h (suc k) (suc-le-suc l))))
+
+pub values-ext {ℓ} : {A : Type ℓ} (f g : ℕ → A) (n : ℕ) → ((x : ℕ) → x < n → f x ≡ g x) → values f 0 n ≡ values g 0 n
+values-ext f g n h = valuesFrom-ext f g 0 n (λ k l. rw (zero-add k) (h k l))

@@ -17,16 +17,32 @@ const BOXES: [[u8; 16]; 4] = [
     [10, 2, 6, 13, 3, 4, 5, 14, 0, 7, 8, 9, 11, 15, 12, 1],
 ];
 
-// Maps of bytes that keep sums, each by its images of the eight bits, lowest first: the sums of bits in f and in g, and the powers 2, 4 and 16.
+// Maps of bytes that keep sums, each by its images of the eight bits, lowest first: the sums of bits in f and in g, and the 16th power.
 const F: [u8; 8] = [0x69, 0x10, 0x1c, 0x84, 0xc4, 0x0a, 0x4e, 0x01];
 
 const G: [u8; 8] = [0x40, 0x84, 0x01, 0xa0, 0x2a, 0x18, 0x61, 0x02];
 
-const POWER2: [u8; 8] = [0x01, 0x04, 0x10, 0x40, 0x1d, 0x74, 0xcd, 0x13];
-
-const POWER4: [u8; 8] = [0x01, 0x10, 0x1d, 0xcd, 0x4c, 0xb4, 0x8f, 0x18];
-
 const POWER16: [u8; 8] = [0x01, 0x4c, 0x9d, 0x46, 0x5f, 0xfd, 0xd9, 0x81];
+
+// The 14th powers of the sixteen elements that are their own 16th power, each at the place that its low four bits tell.
+const POWER14: [u8; 16] = [
+    0x00,
+    0x01,
+    0x44,
+    0x4f,
+    0x92,
+    0x4e,
+    0xd7,
+    0xd6,
+    0x0b,
+    0xdc,
+    0xdd,
+    0x98,
+    0x99,
+    0x0a,
+    0x45,
+    0x93,
+];
 
 fn four_bit_box(i: usize, x: u8) -> u8
     requires { ⌜ (i < 4) × (x < 16) ⌝ }
@@ -67,17 +83,13 @@ fn linear(columns: [u8; 8], x: u8) -> u8
     sum
 }
 
-// The inverse, x^254, by few products: the powers 2, 4 and 16 cost little.
+// x^254 as x^16 times the 14th power of x^17, which is its own 16th power.
 fn inverse(x: u8) -> u8
     ensures { λ r. ⌜ r ≡ inverse x ⌝ }
 {
-    let x2 = linear(POWER2, x);
-    let x3 = product(x2, x);
-    let x12 = linear(POWER4, x3);
-    let x15 = product(x12, x3);
-    let x240 = linear(POWER16, x15);
-    let x252 = product(x240, x12);
-    product(x252, x2)
+    let x16 = linear(POWER16, x);
+    let x17 = product(x, x16);
+    product(x16, POWER14[(x17 % 16) as usize])
 }
 
 // f, the inverse, g.

@@ -1,10 +1,9 @@
 -- `ffunction::by_bytes` meets its contract: M0 goes with F0, M1 with F1.
-use borrow.Author.Needs.{needs}
 use native.Mathlib.Omega.{arith}
 use mathlib.Core.Path.{_≡_}
-use mathlib.Core.List.{[], _∷_}
 use Rattle.clefia_spec.specs.FFunction.{m0, m1}
 use Rattle.ffunction.specs.Tables.{matrix, mix}
+use borrow.Author.Needs.{needs}
 use Rattle.ffunction.proofs.by_bytes.Statement.{statement}
 use Rattle.ffunction.proofs.by_bytes.Tie as tie
 
@@ -14,23 +13,27 @@ substitute-requires c κs = search needs
 matrix-times-requires : tie.Need-matrix-times-requires
 matrix-times-requires c κs = search needs
 
+substitute-requires-2 : tie.Need-substitute-requires-2
+substitute-requires-2 c κs = search needs
+
 matrix-times-requires-2 : tie.Need-matrix-times-requires-2
 matrix-times-requires-2 c κs = search needs
 
 returns : tie.Need-returns
 unfolding mix matrix m0
-returns c =
-    let m : matrix (c .before .before .before .args .f) ≡ 0x01 ∷ 0x02 ∷ 0x04 ∷ 0x06 ∷ [] = rw (c .before .if1 .taken) in
-    cc
+returns c = let e : c .before .before .before .args .f ≡ 0 = c .before .before .if1 .taken in rw e (cc)
 
 returns-2 : tie.Need-returns-2
 unfolding mix matrix m1
-returns-2 c =
-    let e : c .before .before .before .args .f ≡ 1 = omega arith in
-    let m : matrix (c .before .before .before .args .f) ≡ 0x01 ∷ 0x08 ∷ 0x02 ∷ 0x0a ∷ [] = rw e in
-    cc
+returns-2 c = let e : c .before .before .before .args .f ≡ 1 = omega arith in rw e (cc)
 
 pub by-bytes-spec : {M : Type 1} → statement M
 by-bytes-spec =
     tie.close
-    (tie.spec substitute-requires matrix-times-requires matrix-times-requires-2 returns returns-2)
+    (tie.spec
+    substitute-requires
+    matrix-times-requires
+    substitute-requires-2
+    matrix-times-requires-2
+    returns
+    returns-2)

@@ -6,52 +6,33 @@ use borrow.Author.Needs.{needs}
 use Rattle.ffunction.proofs.substitute.Statement.{statement}
 use Rattle.ffunction.proofs.substitute.Tie as tie
 
-cast-substitute : tie.Need-cast-substitute
-cast-substitute c = search needs
+cast-a : tie.Need-cast-a
+cast-a c = search needs
 
-substitute-requires : tie.Need-substitute-requires
-substitute-requires c κs = search needs
+cast-b : tie.Need-cast-b
+cast-b c = search needs
 
-sub-substitute : tie.Need-sub-substitute
-sub-substitute c = search needs
+cast-c : tie.Need-cast-c
+cast-c c = search needs
 
-cast-substitute-2 : tie.Need-cast-substitute-2
-cast-substitute-2 c = search needs
+cast-d : tie.Need-cast-d
+cast-d c = search needs
 
-substitute-requires-2 : tie.Need-substitute-requires-2
-substitute-requires-2 c κs = search needs
+by-tables-requires : tie.Need-by-tables-requires
+by-tables-requires c κs = (search needs, c .before .pre .1 (c .if1 .taken))
 
-cast-substitute-3 : tie.Need-cast-substitute-3
-cast-substitute-3 c = search needs
-
-substitute-requires-3 : tie.Need-substitute-requires-3
-substitute-requires-3 c κs = search needs
-
-sub-substitute-2 : tie.Need-sub-substitute-2
-sub-substitute-2 c = search needs
-
-cast-substitute-4 : tie.Need-cast-substitute-4
-cast-substitute-4 c = search needs
-
-substitute-requires-4 : tie.Need-substitute-requires-4
-substitute-requires-4 c κs = search needs
+by-rules-requires : tie.Need-by-rules-requires
+by-rules-requires c κs = search needs
 
 returns : tie.Need-returns
 unfolding toDigits substitute
-returns c = cc (div-one (c .before .before .before .before .args .z))
+returns c = cc (div-one (c .before .before .args .z))
+
+returns-2 : tie.Need-returns-2
+unfolding toDigits substitute
+returns-2 c = cc (div-one (c .before .before .args .z))
 
 pub substitute-spec : {M : Type 1} → statement M
 substitute-spec =
     tie.close
-    (tie.spec
-    cast-substitute
-    substitute-requires
-    sub-substitute
-    cast-substitute-2
-    substitute-requires-2
-    cast-substitute-3
-    substitute-requires-3
-    sub-substitute-2
-    cast-substitute-4
-    substitute-requires-4
-    returns)
+    (tie.spec cast-a cast-b cast-c cast-d by-tables-requires by-rules-requires returns returns-2)

@@ -1,0 +1,24 @@
+-- `sbox::by_rule` meets its contract.
+use native.Mathlib.Omega.{arith}
+use mathlib.Core.Path.{_≡_}
+use Rattle.sbox.specs.Boxes.{box}
+use borrow.Author.Needs.{needs}
+use Rattle.sbox.proofs.by_rule.Statement.{statement}
+use Rattle.sbox.proofs.by_rule.Tie as tie
+
+s0-requires : tie.Need-s0-requires
+s0-requires c κs = search needs
+
+s1-requires : tie.Need-s1-requires
+s1-requires c κs = search needs
+
+returns : tie.Need-returns
+unfolding box
+returns c = let e : c .before .before .args .i ≡ 0 = c .before .if1 .taken in rw e (c .s0 .ensures)
+
+returns-2 : tie.Need-returns-2
+unfolding box
+returns-2 c = let e : c .before .before .args .i ≡ 1 = omega arith in rw e (c .s1 .ensures)
+
+pub by-rule-spec : {M : Type 1} → statement M
+by-rule-spec = tie.close (tie.spec s0-requires s1-requires returns returns-2)
