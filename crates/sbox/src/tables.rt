@@ -3,7 +3,7 @@ ghost use mathlib.Core.Path.{_≡_};
 ghost use Rattle.sbox.specs.Boxes.{byteTable, byteTables};
 
 const S0: [u8; 256] = [
-    0x57,
+    0x57, // S0 of 00
     0x49,
     0xd1,
     0xc6,
@@ -262,7 +262,7 @@ const S0: [u8; 256] = [
 ];
 
 const S1: [u8; 256] = [
-    0x6c,
+    0x6c, // S1 of 00
     0xda,
     0xc3,
     0xe9,
