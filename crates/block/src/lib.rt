@@ -2,13 +2,21 @@
 ghost use mathlib.Core.Path.{_≡_};
 ghost use Prim.Native.Nat.{_≤_};
 ghost use lib.ListN.{length};
-ghost use Rattle.clefia_spec.specs.Block.{whiten, encryptWords, decryptWords, encryptUnder, decryptUnder};
+ghost use Rattle.clefia_spec.specs.Block.{whiten, roundCount, encryptWords, decryptWords, encryptUnder, decryptUnder};
 ghost use Rattle.ffunction.specs.Tables.{Lent};
 
 fn whiten(a: u32, b: u32, s: [u32; 4]) -> [u32; 4]
     ensures { λ r. ⌜ r ≡ whiten a b s ⌝ }
 {
     [s[0], a ^ s[1], s[2], b ^ s[3]]
+}
+
+// 18, 22 or 26 rounds, by the number of words.
+fn round_count(w: &[u32]) -> usize
+    requires { ⌜ 4 ≤ length (now w) ⌝ }
+    ensures { λ r. ⌜ r ≡ roundCount (now (w .entry)) ⌝ }
+{
+    (w.len() - 4) / 2
 }
 
 pub fn encrypt_words(
@@ -22,7 +30,7 @@ pub fn encrypt_words(
     requires { ⌜ 4 ≤ length (now w) ⌝ }
     ensures { λ r. ⌜ r ≡ encryptWords (now (w .entry)) s ⌝ }
 {
-    let n = (w.len() - 4) / 2;
+    let n = round_count(w);
     let t = network::network4(way, words, bytes, w, n, 4, whiten(w[0], w[1], s));
     whiten(w[2], w[3], t)
 }
@@ -38,7 +46,7 @@ pub fn decrypt_words(
     requires { ⌜ 4 ≤ length (now w) ⌝ }
     ensures { λ r. ⌜ r ≡ decryptWords (now (w .entry)) s ⌝ }
 {
-    let n = (w.len() - 4) / 2;
+    let n = round_count(w);
     let t = network::inverse_network4(way, words, bytes, w, n, 4, whiten(w[2], w[3], s));
     whiten(w[0], w[1], t)
 }
