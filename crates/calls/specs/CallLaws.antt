@@ -3,7 +3,7 @@ use Prim.Native.Nat.{ℕ, _+_, _*_, _≤_}
 use mathlib.Core.Bool.{Bool, true, false, not, _||_}
 use mathlib.Core.Logic.{_≢_}
 use mathlib.Core.List.{List, [], _∷_, _++_}
-use mathlib.Core.Path.{_≡_, refl, sym, ap, _∙_}
+use mathlib.Core.Path.{_≡_, refl, sym, ap, subst, _∙_}
 use native.Mathlib.Omega.{arith}
 use borrow.Author.Tests.{not-true, not-false, eq-eqb, ne-eqb}
 use lib.Dec.{eqb, lit≤}
@@ -17,8 +17,9 @@ use Rattle.answer.specs.Answer.{answerOf, Given}
 use Rattle.answer.specs.declared.Answer.{Answer}
 use Rattle.answer.specs.declared.Answer.the-variants.{Accepted, Refused}
 use Rattle.planbook_spec.specs.Outcome.{Outcome, refused, accepted, after, Check, check, judged}
-use Rattle.planbook_spec.specs.OutcomeLaws.{judged-true, judged-false, pass-check}
-use Rattle.planbook_spec.specs.Checks.{keyCheck, wayCheck, blockCheck, outputCheck, constantCount, expandedCount, constantsCall, expandKeyCall, blockChecks, encryptBlockCall, decryptBlockCall}
+use Rattle.planbook_spec.specs.OutcomeLaws.{judged-true, judged-false, judged-append, pass-check}
+use Rattle.planbook_spec.specs.Checks.{keyAndWay, keyCheck, wayCheck, blockCheck, outputCheck, constantCount, expandedCount, constantsCall, expandKeyCall, blockChecks, encryptBlockCall, decryptBlockCall}
+use Rattle.planbook_spec.specs.Book.{bookChecks, encryptBookBy, decryptBookBy, encryptBookCall, decryptBookCall}
 use Rattle.planbook_spec.specs.CheckLaws.{key-permitted, key-accepted, key-refused, output-accepted}
 
 -- ---- an answer from its outcome
@@ -128,3 +129,34 @@ pub expanded-large : {n m : ℕ} → KeyLength n → m ≡ byKeyLength n 40 48 5
 expanded-large sixteen e = rw e (lit≤ tt)
 expanded-large twentyFour e = rw e (lit≤ tt)
 expanded-large thirtyTwo e = rw e (lit≤ tt)
+
+-- ---- one book, either way round
+
+-- checks 4 to 11, and the book
+unfoldable pub bookUnder : Bool → List ℕ → List ℕ → List ℕ → Outcome
+bookUnder true key book out = decryptBookBy [] (decrypt key) book out
+bookUnder false key book out = encryptBookBy [] (encrypt key) book out
+
+unfoldable pub bookCall : Bool → List ℕ → ℕ → List ℕ → List ℕ → Outcome
+bookCall d key way book out = judged (keyAndWay key way) (bookUnder d key book out)
+
+pub encrypt-book-call : (key : List ℕ) (way : ℕ) (book out : List ℕ) → encryptBookCall key way book out ≡ bookCall false key way book out
+unfolding encryptBookCall bookCall bookUnder encryptBookBy bookChecks
+encrypt-book-call key way book out = judged-append (keyAndWay key way) _ _
+
+pub decrypt-book-call : (key : List ℕ) (way : ℕ) (book out : List ℕ) → decryptBookCall key way book out ≡ bookCall true key way book out
+unfolding decryptBookCall bookCall bookUnder decryptBookBy bookChecks
+decrypt-book-call key way book out = judged-append (keyAndWay key way) _ _
+
+-- under the words of the expanded key, by the test that the code made
+pub decrypted-book : {d : Bool} (ws key book : List ℕ) {out exit : List ℕ} {r : Answer} → d ≡ true → ws ≡ expandKey key
+    → Given (decryptBookBy [] (decryptUnder ws) book out) out r exit → Given (bookUnder d key book out) out r exit
+unfolding decrypt bookUnder
+decrypted-book ws key book {out} {exit} {r} e h g =
+    rw e (subst (λ (x : List ℕ). Given (decryptBookBy [] (decryptUnder x) book out) out r exit) h g)
+
+pub encrypted-book : {d : Bool} (ws key book : List ℕ) {out exit : List ℕ} {r : Answer} → d ≡ false → ws ≡ expandKey key
+    → Given (encryptBookBy [] (encryptUnder ws) book out) out r exit → Given (bookUnder d key book out) out r exit
+unfolding encrypt bookUnder
+encrypted-book ws key book {out} {exit} {r} e h g =
+    rw e (subst (λ (x : List ℕ). Given (encryptBookBy [] (encryptUnder x) book out) out r exit) h g)

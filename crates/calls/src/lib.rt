@@ -11,7 +11,8 @@ ghost use Rattle.ffunction.specs.Tables.{wordTables, byteTables, Lent};
 ghost use Rattle.planbook_spec.specs.Outcome.{accepted, judged};
 ghost use Rattle.planbook_spec.specs.Checks.{outputCheck, expandedCount, constantsCall, expandKeyCall, encryptBlockCall, decryptBlockCall};
 ghost use Rattle.answer.specs.Answer.{Given};
-ghost use Rattle.calls.specs.CallLaws.{codedBlock, blockCall};
+ghost use Rattle.calls.specs.CallLaws.{codedBlock, blockCall, bookUnder, bookCall};
+ghost use Rattle.planbook_spec.specs.Book.{encryptBookCall, decryptBookCall};
 use answer::Answer;
 
 // A number is one of three, compared whole.
@@ -176,4 +177,56 @@ pub fn decrypt_block(key: &[u8], way: u64, block: &[u8], out: &mut [u8]) -> Answ
     ensures { λ r. ⌜ Given (decryptBlockCall (now (key .entry)) way (now (block .entry)) (now (out .entry))) (now (out .entry)) r (now (out .exit)) ⌝ }
 {
     block_call(true, key, way, block, out)
+}
+
+// The key expanded into w, and the book decrypted or encrypted; checks 4 to 11 are made below.
+fn book_into(
+    decrypting: bool,
+    way: u64,
+    words: &[[u32; 256]; 8],
+    bytes: &[[u8; 256]; 2],
+    key: &[u8],
+    w: &mut [u32],
+    book: &[u8],
+    out: &mut [u8],
+) -> Answer
+    requires { ⌜ Lent way (now words) (now bytes) ⌝ }
+    requires { ⌜ KeyLength (length (now key)) ⌝ }
+    requires { ⌜ length (now w) ≡ byKeyLength (length (now key)) 40 48 56 ⌝ }
+    ensures { λ r. ⌜ Given (bookUnder decrypting (now (key .entry)) (now (book .entry)) (now (out .entry))) (now (out .entry)) r (now (out .exit)) ⌝ }
+{
+    schedule::expand_key(way, words, bytes, key, w);
+    if decrypting {
+        return book::decrypt_book(way, words, bytes, w, book, out);
+    }
+    book::encrypt_book(way, words, bytes, w, book, out)
+}
+
+// Both book calls, whose checks 1 and 2 are the same.
+fn book_call(decrypting: bool, key: &[u8], way: u64, book: &[u8], out: &mut [u8]) -> Answer
+    ensures { λ r. ⌜ Given (bookCall decrypting (now (key .entry)) way (now (book .entry)) (now (out .entry))) (now (out .entry)) r (now (out .exit)) ⌝ }
+{
+    if !one_of(key.len() as u64, 16, 24, 32) {
+        return Answer::Refused(1);
+    }
+    if !one_of(way, 1, 2, 3) {
+        return Answer::Refused(2);
+    }
+    let n = 24 + key.len();
+    let words = words_for(way);
+    let bytes = bytes_for(way);
+    let mut w = [0u32; 56];
+    book_into(decrypting, way, &words, &bytes, key, &mut w[..n], book, out)
+}
+
+pub fn encrypt_book(key: &[u8], way: u64, book: &[u8], out: &mut [u8]) -> Answer
+    ensures { λ r. ⌜ Given (encryptBookCall (now (key .entry)) way (now (book .entry)) (now (out .entry))) (now (out .entry)) r (now (out .exit)) ⌝ }
+{
+    book_call(false, key, way, book, out)
+}
+
+pub fn decrypt_book(key: &[u8], way: u64, book: &[u8], out: &mut [u8]) -> Answer
+    ensures { λ r. ⌜ Given (decryptBookCall (now (key .entry)) way (now (book .entry)) (now (out .entry))) (now (out .entry)) r (now (out .exit)) ⌝ }
+{
+    book_call(true, key, way, book, out)
 }

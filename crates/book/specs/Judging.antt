@@ -1,0 +1,35 @@
+-- Laws of answers: checks that are made in groups, one after the other, answer as they do in one list.
+use Prim.Native.Nat.{ℕ}
+use mathlib.Core.Path.{_≡_, refl, sym, ap, _∙_}
+use mathlib.Core.Bool.{Bool, true, false}
+use mathlib.Core.List.{List, [], _∷_, _++_}
+use native.Mathlib.Omega.{arith}
+use Rattle.answer.specs.declared.Answer.the-variants.{Accepted, Refused}
+use Rattle.answer.specs.Answer.{answerOf}
+use Rattle.planbook_spec.specs.Outcome.{Outcome, refused, accepted, Check, check, judged}
+use Rattle.planbook_spec.specs.OutcomeLaws.{AllPass, none, more, judged-append, judged-pass}
+
+-- A group that refuses, refuses all that begins with it.
+pub stopped : (cs : List Check) (n : ℕ) {c : ℕ} (o : Outcome) → Refused c ≡ answerOf (judged cs (accepted n [])) → judged cs o ≡ refused c
+unfolding judged
+stopped [] n o e = let z : _≡_ {A = ℕ} 0 1 = cc in absurd (omega arith)
+stopped (check d true ∷ cs) n o e = stopped cs n o e
+stopped (check d false ∷ cs) n o e = cc
+
+-- What is known of a group that passed: all of it passed, and the count is the one that it gives.
+pub record Went (cs : List Check) (n m : ℕ) : Type 0 where
+  pub checks : AllPass cs
+  pub same : m ≡ n
+
+pub went : (cs : List Check) (n : ℕ) {m : ℕ} → Accepted m ≡ answerOf (judged cs (accepted n [])) → Went cs n m
+unfolding judged
+went [] n e = record { checks = none; same = cc }
+went (check d true ∷ cs) n {m} e = let w : Went cs n m = went cs n e in record { checks = more (w .checks); same = w .same }
+went (check d false ∷ cs) n e = let z : _≡_ {A = ℕ} 0 1 = cc in absurd (omega arith)
+
+-- Two groups.
+pub stopped-first : (cs ds : List Check) (n : ℕ) {c : ℕ} (o : Outcome) → Refused c ≡ answerOf (judged cs (accepted n [])) → judged (cs ++ ds) o ≡ refused c
+stopped-first cs ds n o e = judged-append cs ds o ∙ stopped cs n (judged ds o) e
+
+pub passed-first : (cs ds : List Check) (o : Outcome) → AllPass cs → judged (cs ++ ds) o ≡ judged ds o
+passed-first cs ds o p = judged-append cs ds o ∙ judged-pass p (judged ds o)

@@ -1,0 +1,12 @@
+pub mod Entry
+pub mod Form
+pub mod Tests
+pub mod Walks
+pub mod Judging
+pub mod FormLaws
+pub mod Blocks
+pub mod Chain
+pub mod ChainLaws
+pub mod Bodies
+pub mod BodiesLaws
+pub mod BookLaws
