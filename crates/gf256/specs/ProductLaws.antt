@@ -2,7 +2,7 @@
 use Prim.Native.Nat.{ℕ, zero, suc, _-_, _*_, _/_, _%_, _≤_, _<_}
 use native.Mathlib.Nat.{mul-le-mul-right, one-mul, le-of-eq, le-trans, not-suc-le-zero}
 use native.Mathlib.Omega.{arith}
-use mathlib.Core.Path.{_≡_, refl}
+use mathlib.Core.Path.{_≡_}
 use Rattle.clefia_spec.specs.Words.{_⊕_}
 use Rattle.clefia_spec.specs.Field.{double, double8, addProduct}
 use Rattle.clefia_spec.specs.FieldLaws.{agree}
