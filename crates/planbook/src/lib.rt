@@ -1,6 +1,7 @@
 // The border to C: each exported call turns the answer of the call below into the 64-bit number, and nothing else. No call has a precondition.
 ghost use Rattle.planbook_spec.specs.Outcome.{Answers};
 ghost use Rattle.planbook_spec.specs.Checks.{constantsCall, expandKeyCall, encryptBlockCall, decryptBlockCall};
+ghost use Rattle.planbook_spec.specs.Book.{encryptBookCall, decryptBookCall};
 
 #[no_mangle]
 pub extern "C" fn planbook_constants(size: u64, out: &mut [u8]) -> u64
@@ -28,4 +29,18 @@ pub extern "C" fn planbook_decrypt_block(key: &[u8], way: u64, block: &[u8], out
     ensures { λ r. ⌜ Answers (decryptBlockCall (now (key .entry)) way (now (block .entry)) (now (out .entry))) (now (out .entry)) r (now (out .exit)) ⌝ }
 {
     answer::number(calls::decrypt_block(key, way, block, out))
+}
+
+#[no_mangle]
+pub extern "C" fn planbook_encrypt_book(key: &[u8], way: u64, book: &[u8], out: &mut [u8]) -> u64
+    ensures { λ r. ⌜ Answers (encryptBookCall (now (key .entry)) way (now (book .entry)) (now (out .entry))) (now (out .entry)) r (now (out .exit)) ⌝ }
+{
+    answer::number(calls::encrypt_book(key, way, book, out))
+}
+
+#[no_mangle]
+pub extern "C" fn planbook_decrypt_book(key: &[u8], way: u64, book: &[u8], out: &mut [u8]) -> u64
+    ensures { λ r. ⌜ Answers (decryptBookCall (now (key .entry)) way (now (book .entry)) (now (out .entry))) (now (out .entry)) r (now (out .exit)) ⌝ }
+{
+    answer::number(calls::decrypt_book(key, way, book, out))
 }

@@ -1,7 +1,7 @@
 -- `ffunction::by_bytes` meets its contract: M0 goes with F0, M1 with F1.
 use native.Mathlib.Omega.{arith}
-use mathlib.Core.Path.{_≡_}
-use Rattle.clefia_spec.specs.FFunction.{m0, m1}
+use mathlib.Core.Path.{_≡_, ap, _∙_}
+use Rattle.clefia_spec.specs.FFunction.{m0, m1, matrixTimes}
 use Rattle.ffunction.specs.Tables.{matrix, mix}
 use borrow.Author.Needs.{needs}
 use Rattle.ffunction.proofs.by_bytes.Statement.{statement}
@@ -21,11 +21,15 @@ matrix-times-requires-2 c κs = search needs
 
 returns : tie.Need-returns
 unfolding mix matrix m0
-returns c = let e : c .before .before .before .args .f ≡ 0 = c .before .before .if1 .taken in rw e (cc)
+returns c =
+    let e : c .before .before .before .args .f ≡ 0 = c .before .before .if1 .taken in
+    rw e (c .matrix-times .ensures ∙ ap (matrixTimes m0) (c .before .substitute .ensures))
 
 returns-2 : tie.Need-returns-2
 unfolding mix matrix m1
-returns-2 c = let e : c .before .before .before .args .f ≡ 1 = omega arith in rw e (cc)
+returns-2 c =
+    let e : c .before .before .before .args .f ≡ 1 = omega arith in
+    rw e (c .matrix-times2 .ensures ∙ ap (matrixTimes m1) (c .before .substitute2 .ensures))
 
 pub by-bytes-spec : {M : Type 1} → statement M
 by-bytes-spec =
