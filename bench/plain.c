@@ -1,0 +1,614 @@
+/*
+ * Plan books in plain C: the opponent that bench.c times the library against.
+ * It is written to be as fast as the same three algorithms allow at -O3.
+ *
+ * Where the cipher is worked out, the way is always a constant: everything that
+ * depends on it is inlined into one copy for each way, so that no test of the
+ * way is left inside a round.
+ */
+#include "plain.h"
+#include "plain_tables.h"
+
+#include <string.h>
+
+#define INLINE static inline __attribute__((always_inline))
+
+enum { BYTE_TABLES = 1, WORD_TABLES = 2, BY_RULES = 3 };
+enum { BLOCK = 16, HEAD = 4, ENTRY = 24, IV_AT = 8 };
+enum { MOST_BYTES = 65532, MOST_SHEETS = 64, MOST_RECORDS = 1024 };
+enum { CLEAR = 1, SEALED = 2 };
+
+/*
+ * Words, the first byte highest, on a machine that has it lowest. Shifts say the
+ * same, but gcc makes slow code of them where many words are stored.
+ */
+
+INLINE uint32_t load_word(const uint8_t *p)
+{
+    uint32_t w;
+    memcpy(&w, p, sizeof w);
+    return __builtin_bswap32(w);
+}
+
+INLINE void store_word(uint8_t *p, uint32_t w)
+{
+    w = __builtin_bswap32(w);
+    memcpy(p, &w, sizeof w);
+}
+
+static void store_words(uint8_t *out, const uint32_t *words, size_t count)
+{
+    for (size_t i = 0; i < count; i++)
+        store_word(out + 4 * i, words[i]);
+}
+
+/* Four branches of the network, or one block. */
+struct quad { uint32_t a, b, c, d; };
+
+INLINE struct quad load_quad(const uint8_t *p)
+{
+    return (struct quad){load_word(p), load_word(p + 4), load_word(p + 8), load_word(p + 12)};
+}
+
+INLINE void store_quad(uint8_t *p, struct quad t)
+{
+    store_word(p, t.a);
+    store_word(p + 4, t.b);
+    store_word(p + 8, t.c);
+    store_word(p + 12, t.d);
+}
+
+INLINE struct quad xor_quads(struct quad s, struct quad t)
+{
+    return (struct quad){s.a ^ t.a, s.b ^ t.b, s.c ^ t.c, s.d ^ t.d};
+}
+
+/*
+ * GF(2^8) modulo z^8+z^4+z^3+z^2+1. The bit that leaves x is the one 11d clears,
+ * so no mask is needed.
+ */
+
+INLINE uint32_t twice(uint32_t x)
+{
+    return x << 1 ^ (x >> 7) * 0x11d;
+}
+
+/* x times m by doublings, through the eight bits of m. */
+INLINE uint32_t product(uint32_t x, uint32_t m)
+{
+    uint32_t sum = 0;
+    for (int i = 0; i < 8; i++) {
+        sum ^= x & -(m >> i & 1);
+        x = twice(x);
+    }
+    return sum;
+}
+
+/* S0 and S1 worked out from the rules. */
+
+/* A byte through a matrix over GF(2), given by the images of bits 80, 40, .. 01. */
+INLINE uint32_t linear(uint32_t x, const uint8_t image[8])
+{
+    uint32_t sum = 0;
+    for (int i = 0; i < 8; i++)
+        sum ^= image[i] & -(x >> (7 - i) & 1);
+    return sum;
+}
+
+/* Doubling in GF(2^4) modulo z^4+z+1. */
+INLINE uint32_t twice4(uint32_t x)
+{
+    return x << 1 ^ (-(x >> 3) & 0x13);
+}
+
+INLINE uint32_t s0_by_rules(uint32_t x)
+{
+    uint32_t t0 = NIBBLE_BOXES[0][x >> 4];
+    uint32_t t1 = NIBBLE_BOXES[1][x & 15];
+    return (uint32_t)NIBBLE_BOXES[2][t0 ^ twice4(t1)] << 4 | NIBBLE_BOXES[3][twice4(t0) ^ t1];
+}
+
+/*
+ * x^254 as x^16 times (x^17)^14. Raising to 16 is linear. x^17 lies in the
+ * subfield of sixteen elements, which differ in their low four bits, so its
+ * 14th power is read from sixteen entries: two products instead of four.
+ */
+INLINE uint32_t inverse(uint32_t x)
+{
+    static const uint8_t power16[8] = {0x81, 0xd9, 0xfd, 0x5f, 0x46, 0x9d, 0x4c, 0x01};
+    static const uint8_t power14[16] = {
+        0x00, 0x01, 0x44, 0x4f, 0x92, 0x4e, 0xd7, 0xd6,
+        0x0b, 0xdc, 0xdd, 0x98, 0x99, 0x0a, 0x45, 0x93,
+    };
+    uint32_t x16 = linear(x, power16);
+    return product(x16, power14[product(x, x16) & 15]);
+}
+
+static uint32_t s1_by_rules(uint32_t x)
+{
+    static const uint8_t f[8] = {0x01, 0x4e, 0x0a, 0xc4, 0x84, 0x1c, 0x10, 0x69};
+    static const uint8_t g[8] = {0x02, 0x61, 0x18, 0x2a, 0xa0, 0x01, 0x84, 0x40};
+    return linear(inverse(linear(x, f) ^ 0x1e), g) ^ 0x69;
+}
+
+/* F0 and F1. */
+
+INLINE uint32_t s0(int way, uint32_t x)
+{
+    return way == BYTE_TABLES ? S0_TABLE[x] : s0_by_rules(x);
+}
+
+INLINE uint32_t s1(int way, uint32_t x)
+{
+    return way == BYTE_TABLES ? S1_TABLE[x] : s1_by_rules(x);
+}
+
+/* One row of a matrix times four substituted bytes. */
+INLINE uint32_t row(struct quad s, uint32_t m0, uint32_t m1, uint32_t m2, uint32_t m3)
+{
+    return product(s.a, m0) ^ product(s.b, m1) ^ product(s.c, m2) ^ product(s.d, m3);
+}
+
+/* The matrix with entry m(i ^ j) at row i, column j, times four substituted bytes. */
+INLINE uint32_t mixed(struct quad s, uint32_t m0, uint32_t m1, uint32_t m2, uint32_t m3)
+{
+    return row(s, m0, m1, m2, m3) << 24 | row(s, m1, m0, m3, m2) << 16
+         | row(s, m2, m3, m0, m1) << 8 | row(s, m3, m2, m1, m0);
+}
+
+INLINE uint32_t look_up(const uint32_t tables[4][256], uint32_t x)
+{
+    return tables[0][x >> 24] ^ tables[1][x >> 16 & 0xff]
+         ^ tables[2][x >> 8 & 0xff] ^ tables[3][x & 0xff];
+}
+
+INLINE uint32_t f0(int way, uint32_t key, uint32_t x)
+{
+    x ^= key;
+    if (way == WORD_TABLES)
+        return look_up(F0_TABLES, x);
+    struct quad s = {s0(way, x >> 24), s1(way, x >> 16 & 0xff),
+                     s0(way, x >> 8 & 0xff), s1(way, x & 0xff)};
+    return mixed(s, 1, 2, 4, 6);
+}
+
+INLINE uint32_t f1(int way, uint32_t key, uint32_t x)
+{
+    x ^= key;
+    if (way == WORD_TABLES)
+        return look_up(F1_TABLES, x);
+    struct quad s = {s1(way, x >> 24), s0(way, x >> 16 & 0xff),
+                     s1(way, x >> 8 & 0xff), s0(way, x & 0xff)};
+    return mixed(s, 1, 8, 2, 10);
+}
+
+/*
+ * The networks. The branches are renamed instead of rotated; after two rounds
+ * they stand two places on. The number of rounds is even. More rounds unrolled,
+ * a copy for each number of rounds, or the next round key added ahead made the
+ * chain no faster: it waits for the tables.
+ */
+
+INLINE struct quad network4(int way, const uint32_t *keys, int rounds, struct quad t)
+{
+    for (const uint32_t *end = keys + 2 * rounds; keys < end; keys += 4) {
+        t.b ^= f0(way, keys[0], t.a);
+        t.d ^= f1(way, keys[1], t.c);
+        t.c ^= f0(way, keys[2], t.b);
+        t.a ^= f1(way, keys[3], t.d);
+        t = (struct quad){t.c, t.d, t.a, t.b};
+    }
+    return (struct quad){t.d, t.a, t.b, t.c};
+}
+
+/* Backward, over one or two blocks abreast: two fill the time that one waits for the tables. */
+INLINE void network4_back(int way, const uint32_t *keys, int rounds, struct quad *t, int lanes)
+{
+    for (const uint32_t *at = keys + 2 * rounds; at > keys; at -= 4)
+        for (int i = 0; i < lanes; i++) {
+            t[i].b ^= f0(way, at[-2], t[i].a);
+            t[i].d ^= f1(way, at[-1], t[i].c);
+            t[i].a ^= f0(way, at[-4], t[i].d);
+            t[i].c ^= f1(way, at[-3], t[i].b);
+            t[i] = (struct quad){t[i].c, t[i].d, t[i].a, t[i].b};
+        }
+    for (int i = 0; i < lanes; i++)
+        t[i] = (struct quad){t[i].b, t[i].c, t[i].d, t[i].a};
+}
+
+/* Ten rounds over eight branches, in place. */
+INLINE void network8(int way, const uint32_t *keys, struct quad *left, struct quad *right)
+{
+    struct quad l = *left, r = *right;
+    for (int i = 0; i < 5; i++, keys += 8) {
+        l.b ^= f0(way, keys[0], l.a);
+        l.d ^= f1(way, keys[1], l.c);
+        r.b ^= f0(way, keys[2], r.a);
+        r.d ^= f1(way, keys[3], r.c);
+        l.c ^= f0(way, keys[4], l.b);
+        r.a ^= f1(way, keys[5], l.d);
+        r.c ^= f0(way, keys[6], r.b);
+        l.a ^= f1(way, keys[7], r.d);
+        struct quad turned = {l.c, l.d, r.a, r.b};
+        r = (struct quad){r.c, r.d, l.a, l.b};
+        l = turned;
+    }
+    *left = (struct quad){r.d, l.a, l.b, l.c};
+    *right = (struct quad){l.d, r.a, r.b, r.c};
+}
+
+/* The key schedule. */
+
+/* The expanded key: four whitening words, then two round keys a round. */
+struct schedule {
+    uint32_t words[56];
+    int rounds;
+};
+
+INLINE struct quad double_swap(struct quad t)
+{
+    uint64_t high = (uint64_t)t.a << 32 | t.b, low = (uint64_t)t.c << 32 | t.d;
+    uint64_t new_high = high << 7 | (low & 0x7f);
+    uint64_t new_low = high >> 57 << 57 | low >> 7;
+    return (struct quad){(uint32_t)(new_high >> 32), (uint32_t)new_high,
+                         (uint32_t)(new_low >> 32), (uint32_t)new_low};
+}
+
+INLINE void put_quad(uint32_t *words, struct quad t)
+{
+    words[0] = t.a;
+    words[1] = t.b;
+    words[2] = t.c;
+    words[3] = t.d;
+}
+
+INLINE struct quad get_quad(const uint32_t *words)
+{
+    return (struct quad){words[0], words[1], words[2], words[3]};
+}
+
+/* Four round keys from the intermediate key, which moves on. */
+INLINE void put_round_keys(uint32_t *words, struct quad *l, const uint32_t *constants)
+{
+    put_quad(words, xor_quads(*l, get_quad(constants)));
+    *l = double_swap(*l);
+}
+
+INLINE void mix_in(uint32_t *words, struct quad key)
+{
+    put_quad(words, xor_quads(get_quad(words), key));
+}
+
+INLINE void expand_16(int way, const uint8_t *key, struct schedule *s)
+{
+    struct quad k = load_quad(key), l = network4(way, CONSTANTS_16, 12, k);
+    s->rounds = 18;
+    put_quad(s->words, k);
+    for (int i = 0; i < 9; i++) {
+        put_round_keys(s->words + 4 + 4 * i, &l, CONSTANTS_16 + 24 + 4 * i);
+        if (i % 2 == 1)
+            mix_in(s->words + 4 + 4 * i, k);
+    }
+}
+
+INLINE void expand_longer(int way, struct quad kl, struct quad kr, const uint32_t *constants,
+                          int rounds, struct schedule *s)
+{
+    struct quad ll = kl, lr = kr;
+    network8(way, constants, &ll, &lr);
+    s->rounds = rounds;
+    put_quad(s->words, xor_quads(kl, kr));
+    for (int i = 0; 2 * i < rounds; i++) {
+        put_round_keys(s->words + 4 + 4 * i, i % 4 < 2 ? &ll : &lr, constants + 40 + 4 * i);
+        if (i % 2 == 1)
+            mix_in(s->words + 4 + 4 * i, i % 4 < 2 ? kr : kl);
+    }
+}
+
+INLINE void expand(int way, const uint8_t *key, size_t key_len, struct schedule *s)
+{
+    if (key_len == 16) {
+        expand_16(way, key, s);
+        return;
+    }
+    struct quad kl = load_quad(key), kr;
+    if (key_len == 24) {
+        kr = (struct quad){load_word(key + 16), load_word(key + 20), ~kl.a, ~kl.b};
+        expand_longer(way, kl, kr, CONSTANTS_24, 22, s);
+    } else {
+        kr = load_quad(key + 16);
+        expand_longer(way, kl, kr, CONSTANTS_32, 26, s);
+    }
+}
+
+/* Blocks and CBC chains. A single block is a chain of one from a zero iv. */
+
+INLINE struct quad encrypt(int way, const struct schedule *s, struct quad p)
+{
+    const uint32_t *w = s->words;
+    p.b ^= w[0];
+    p.d ^= w[1];
+    p = network4(way, w + 4, s->rounds, p);
+    p.b ^= w[2];
+    p.d ^= w[3];
+    return p;
+}
+
+INLINE void decrypt(int way, const struct schedule *s, struct quad *c, int lanes)
+{
+    const uint32_t *w = s->words;
+    for (int i = 0; i < lanes; i++) {
+        c[i].b ^= w[2];
+        c[i].d ^= w[3];
+    }
+    network4_back(way, w + 4, s->rounds, c, lanes);
+    for (int i = 0; i < lanes; i++) {
+        c[i].b ^= w[0];
+        c[i].d ^= w[1];
+    }
+}
+
+INLINE void encrypt_chain(int way, const struct schedule *s, const uint8_t *iv,
+                          const uint8_t *in, uint8_t *out, size_t blocks)
+{
+    struct quad chain = load_quad(iv);
+    for (size_t i = 0; i < blocks; i++) {
+        chain = encrypt(way, s, xor_quads(load_quad(in + BLOCK * i), chain));
+        store_quad(out + BLOCK * i, chain);
+    }
+}
+
+/* The next blocks of a chain; answers the last encrypted one. */
+INLINE struct quad decrypt_next(int way, const struct schedule *s, struct quad chain,
+                                const uint8_t *in, uint8_t *out, int lanes)
+{
+    struct quad t[2];
+    for (int i = 0; i < lanes; i++)
+        t[i] = load_quad(in + BLOCK * i);
+    decrypt(way, s, t, lanes);
+    for (int i = 0; i < lanes; i++) {
+        store_quad(out + BLOCK * i, xor_quads(t[i], chain));
+        chain = load_quad(in + BLOCK * i);
+    }
+    return chain;
+}
+
+INLINE void decrypt_chain(int way, const struct schedule *s, const uint8_t *iv,
+                          const uint8_t *in, uint8_t *out, size_t blocks)
+{
+    struct quad chain = load_quad(iv);
+    for (; blocks >= 2; blocks -= 2, in += 2 * BLOCK, out += 2 * BLOCK)
+        chain = decrypt_next(way, s, chain, in, out, 2);
+    if (blocks == 1)
+        decrypt_next(way, s, chain, in, out, 1);
+}
+
+/* One copy of each for each way, picked once a call or a sheet. */
+
+#define BY_WAY(way, call, ...)                                  \
+    do {                                                        \
+        if ((way) == WORD_TABLES)                               \
+            call(WORD_TABLES, __VA_ARGS__);                     \
+        else if ((way) == BYTE_TABLES)                          \
+            call(BYTE_TABLES, __VA_ARGS__);                     \
+        else                                                    \
+            call(BY_RULES, __VA_ARGS__);                        \
+    } while (0)
+
+static void expand_by(uint64_t way, const uint8_t *key, size_t key_len, struct schedule *s)
+{
+    BY_WAY(way, expand, key, key_len, s);
+}
+
+typedef void chain_call(uint64_t way, const struct schedule *s, const uint8_t *iv,
+                        const uint8_t *in, uint8_t *out, size_t blocks);
+
+static void encrypt_chain_by(uint64_t way, const struct schedule *s, const uint8_t *iv,
+                             const uint8_t *in, uint8_t *out, size_t blocks)
+{
+    BY_WAY(way, encrypt_chain, s, iv, in, out, blocks);
+}
+
+static void decrypt_chain_by(uint64_t way, const struct schedule *s, const uint8_t *iv,
+                             const uint8_t *in, uint8_t *out, size_t blocks)
+{
+    BY_WAY(way, decrypt_chain, s, iv, in, out, blocks);
+}
+
+/* The checks. Each answers 0 or the number of the first check that fails. */
+
+static int check_key_and_way(size_t key_len, uint64_t way)
+{
+    if (key_len != 16 && key_len != 24 && key_len != 32)
+        return 1;
+    return way < 1 || way > 3 ? 2 : 0;
+}
+
+static int entry_holds(const uint8_t *entry, uint32_t trial_before)
+{
+    uint32_t count = load_word(entry + 4) >> 16;
+    return load_word(entry) > trial_before && count >= 1 && count <= MOST_RECORDS
+        && entry[6] == 0 && entry[7] == 0;
+}
+
+/* Checks 5 to 10; n and the sum of the record counts are handed back. */
+static int check_format(uint8_t first, const uint8_t *book, size_t len, size_t *n, size_t *records)
+{
+    if (len < HEAD || len > MOST_BYTES)
+        return 5;
+    if (book[0] != first || book[1] != 0)
+        return 6;
+    *n = (size_t)book[2] << 8 | book[3];
+    if (*n > MOST_SHEETS)
+        return 7;
+    if (len < HEAD + ENTRY * *n)
+        return 8;
+    uint32_t trial = 0;
+    *records = 0;
+    for (const uint8_t *e = book + HEAD; e < book + HEAD + ENTRY * *n; e += ENTRY) {
+        if (!entry_holds(e, trial))
+            return 9;
+        trial = load_word(e);
+        *records += (size_t)e[4] << 8 | e[5];
+    }
+    return len == HEAD + ENTRY * *n + BLOCK * *records ? 0 : 10;
+}
+
+INLINE int record_holds(const uint8_t *record, uint32_t trial)
+{
+    struct quad r = load_quad(record);
+    return r.a == trial && r.b != 0 && (r.c >> 24) - 1 < 4 && (r.d & 0xffffff) == 0;
+}
+
+/* Check 11, for the bodies of the n sheets in the contents. */
+static int records_hold(const uint8_t *contents, size_t n, const uint8_t *bodies)
+{
+    for (const uint8_t *e = contents; e < contents + ENTRY * n; e += ENTRY) {
+        uint32_t trial = load_word(e);
+        const uint8_t *end = bodies + BLOCK * (load_word(e + 4) >> 16);
+        for (; bodies < end; bodies += BLOCK)
+            if (!record_holds(bodies, trial))
+                return 0;
+    }
+    return 1;
+}
+
+/* The calls. */
+
+static uint64_t refused(int check)
+{
+    return (uint64_t)check << 32;
+}
+
+uint64_t plain_constants(uint64_t key_length, uint8_t *out, size_t out_len)
+{
+    const uint32_t *words = CONSTANTS_16;
+    size_t count = 60;
+    if (key_length == 24) {
+        words = CONSTANTS_24;
+        count = 84;
+    } else if (key_length == 32) {
+        words = CONSTANTS_32;
+        count = 92;
+    } else if (key_length != 16)
+        return refused(1);
+    if (out_len != 4 * count)
+        return refused(4);
+    store_words(out, words, count);
+    return count;
+}
+
+uint64_t plain_expand_key(const uint8_t *key, size_t key_len, uint64_t way,
+                          uint8_t *out, size_t out_len)
+{
+    int failed = check_key_and_way(key_len, way);
+    if (failed)
+        return refused(failed);
+    size_t count = 24 + key_len; /* 40, 48 or 56 words */
+    if (out_len != 4 * count)
+        return refused(4);
+    struct schedule s;
+    expand_by(way, key, key_len, &s);
+    store_words(out, s.words, count);
+    return count;
+}
+
+static uint64_t block_call(chain_call *chain, const uint8_t *key, size_t key_len, uint64_t way,
+                           const uint8_t *block, size_t block_len, uint8_t *out, size_t out_len)
+{
+    static const uint8_t zero_iv[BLOCK];
+    int failed = check_key_and_way(key_len, way);
+    if (failed)
+        return refused(failed);
+    if (block_len != BLOCK)
+        return refused(3);
+    if (out_len != BLOCK)
+        return refused(4);
+    struct schedule s;
+    expand_by(way, key, key_len, &s);
+    chain(way, &s, zero_iv, block, out, 1);
+    return 1;
+}
+
+uint64_t plain_encrypt_block(const uint8_t *key, size_t key_len, uint64_t way,
+                             const uint8_t *block, size_t block_len,
+                             uint8_t *out, size_t out_len)
+{
+    return block_call(encrypt_chain_by, key, key_len, way, block, block_len, out, out_len);
+}
+
+uint64_t plain_decrypt_block(const uint8_t *key, size_t key_len, uint64_t way,
+                             const uint8_t *block, size_t block_len,
+                             uint8_t *out, size_t out_len)
+{
+    return block_call(decrypt_chain_by, key, key_len, way, block, block_len, out, out_len);
+}
+
+/* Checks 1, 2 and 4 to 10, in this order. */
+static int check_book(size_t key_len, uint64_t way, uint8_t first, const uint8_t *book,
+                      size_t book_len, size_t out_len, size_t *n, size_t *records)
+{
+    int failed = check_key_and_way(key_len, way);
+    if (failed)
+        return failed;
+    if (out_len != book_len)
+        return 4;
+    return check_format(first, book, book_len, n, records);
+}
+
+/* Each sheet's body through its own chain. */
+static void chain_sheets(chain_call *chain, uint64_t way, const uint8_t *key, size_t key_len,
+                         const uint8_t *contents, size_t n, const uint8_t *in, uint8_t *out)
+{
+    struct schedule s;
+    expand_by(way, key, key_len, &s);
+    for (const uint8_t *e = contents; e < contents + ENTRY * n; e += ENTRY) {
+        size_t count = load_word(e + 4) >> 16;
+        chain(way, &s, e + IV_AT, in, out, count);
+        in += BLOCK * count;
+        out += BLOCK * count;
+    }
+}
+
+uint64_t plain_encrypt_book(const uint8_t *key, size_t key_len, uint64_t way,
+                            const uint8_t *book, size_t book_len,
+                            uint8_t *out, size_t out_len)
+{
+    size_t n, records;
+    int failed = check_book(key_len, way, CLEAR, book, book_len, out_len, &n, &records);
+    if (failed)
+        return refused(failed);
+    size_t start = HEAD + ENTRY * n;
+    if (!records_hold(book + HEAD, n, book + start))
+        return refused(11);
+    memcpy(out, book, start);
+    out[0] = SEALED;
+    chain_sheets(encrypt_chain_by, way, key, key_len, book + HEAD, n, book + start, out + start);
+    return records;
+}
+
+/*
+ * The bodies are decrypted into a work array and copied once every record is
+ * known to hold, since a refused call must not write. The array is wiped: the
+ * clear plan is not left on the stack.
+ */
+uint64_t plain_decrypt_book(const uint8_t *key, size_t key_len, uint64_t way,
+                            const uint8_t *book, size_t book_len,
+                            uint8_t *out, size_t out_len)
+{
+    uint8_t work[MOST_BYTES];
+    size_t n, records;
+    int failed = check_book(key_len, way, SEALED, book, book_len, out_len, &n, &records);
+    if (failed)
+        return refused(failed);
+    size_t start = HEAD + ENTRY * n;
+    chain_sheets(decrypt_chain_by, way, key, key_len, book + HEAD, n, book + start, work);
+    int hold = records_hold(book + HEAD, n, work);
+    if (hold) {
+        memcpy(out, book, start);
+        out[0] = CLEAR;
+        memcpy(out + start, work, BLOCK * records);
+    }
+    explicit_bzero(work, BLOCK * records);
+    return hold ? records : refused(11);
+}

@@ -1,0 +1,28 @@
+/*
+ * The six calls of include/planbook.h once more, in plain C: the opponent of
+ * the benchmark. Same parameters, same checks, same answers; the header of the
+ * library says what they are. Not part of the library and not proved.
+ */
+#ifndef PLAIN_H
+#define PLAIN_H
+
+#include <stddef.h>
+#include <stdint.h>
+
+uint64_t plain_constants(uint64_t key_length, uint8_t *out, size_t out_len);
+uint64_t plain_expand_key(const uint8_t *key, size_t key_len, uint64_t way,
+                          uint8_t *out, size_t out_len);
+uint64_t plain_encrypt_block(const uint8_t *key, size_t key_len, uint64_t way,
+                             const uint8_t *block, size_t block_len,
+                             uint8_t *out, size_t out_len);
+uint64_t plain_decrypt_block(const uint8_t *key, size_t key_len, uint64_t way,
+                             const uint8_t *block, size_t block_len,
+                             uint8_t *out, size_t out_len);
+uint64_t plain_encrypt_book(const uint8_t *key, size_t key_len, uint64_t way,
+                            const uint8_t *book, size_t book_len,
+                            uint8_t *out, size_t out_len);
+uint64_t plain_decrypt_book(const uint8_t *key, size_t key_len, uint64_t way,
+                            const uint8_t *book, size_t book_len,
+                            uint8_t *out, size_t out_len);
+
+#endif

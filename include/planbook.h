@@ -1,0 +1,213 @@
+/*
+ * planbook.h: sealing and opening plan books with the block cipher CLEFIA.
+ *
+ * THE MODEL
+ *
+ * A plan book is a byte string that says which plants of a field trial stand where. It has a head, a table of contents
+ * with one entry for each sheet (one sheet to a trial), and the bodies of the sheets, which are records of 16 bytes.
+ * A clear book begins with 01 00, a sealed one with 02 00. Sealing encrypts every body with CLEFIA in CBC mode: each
+ * sheet has a chain of its own, which begins at the start block (the field's word: IV) that stands in its contents
+ * entry. Head and contents are copied, but for the first byte. A sealed book is as long as the clear one. The format is
+ * written down whole in docs/FORMAT.md; the lengths are named below.
+ *
+ * Six calls do the work: the constants of the key schedule, the expanded ("prepared") key, one block encrypted or
+ * decrypted, one book encrypted ("sealed") or decrypted ("opened"). Every call but the first takes a "way", which is
+ * the field's implementation strategy: it changes the speed and never the result.
+ *
+ * ANSWERS
+ *
+ * A call answers one 64-bit number: check times 2^32, plus count. Check 0 is acceptance, and the count then says what
+ * was done: words written, 1 for a block, or the number of records in the book. Another check is a refusal for the
+ * reason with that number, and the count is 0. Each call tries its checks in the order given with it, and the first that
+ * fails is the answer. planbook_check, planbook_count and planbook_check_sentence take an answer apart.
+ *
+ * A refused call has written nothing: the output holds what it held before. This is so for opening too, where the last
+ * check looks at the decrypted records. An accepted call has written every byte of the output.
+ *
+ * MEMORY
+ *
+ * The caller owns all memory. A call reads the inputs and writes the output while it runs, and keeps no pointer. Bytes
+ * need no alignment. A pointer whose length is 0 may be null. Two things are the caller's duty, since no call can check
+ * them: all lent bytes exist for the whole length given, and the output overlaps no input. Not even an output that
+ * is exactly the input is permitted.
+ *
+ * The library keeps no state between calls, so there is nothing to initialise, and any number of threads may call it at
+ * once, each with an output of its own.
+ *
+ * WHAT IS NOT PROMISED
+ *
+ * - Timing. Ways 1 and 2 read tables at places that depend on secret bytes. No way is promised to take the same time for
+ *   all keys and records.
+ * - Who wrote a book. Sealing is not authenticated: a changed sealed book may open as another plan.
+ * - The right key. A wrong key mostly meets check 11, but a book may open under it as another plan.
+ * - Secrecy of the contents. Trials, record counts and start blocks stay readable in a sealed book.
+ * - Keys and start blocks. The caller draws them. Use a start block once under a key; it should not be predictable.
+ * - Wiping. Keys and clear records may stay behind in dead stack memory.
+ * - Other platforms. The library is built for x86-64 Linux.
+ */
+#ifndef PLANBOOK_H
+#define PLANBOOK_H
+
+#include <stddef.h>
+#include <stdint.h>
+
+#ifdef __cplusplus
+extern "C" {
+#endif
+
+#define PLANBOOK_VERSION "0.1.0"
+
+/* Key lengths in bytes. Where a key is asked for, any of the three will do. */
+#define PLANBOOK_KEY128_BYTES 16
+#define PLANBOOK_KEY192_BYTES 24
+#define PLANBOOK_KEY256_BYTES 32
+#define PLANBOOK_MAX_KEY_BYTES PLANBOOK_KEY256_BYTES
+
+#define PLANBOOK_BLOCK_BYTES 16
+
+/* Output lengths of planbook_constants: 60, 84 or 92 words of four bytes. */
+#define PLANBOOK_CONSTANTS128_BYTES 240
+#define PLANBOOK_CONSTANTS192_BYTES 336
+#define PLANBOOK_CONSTANTS256_BYTES 368
+
+/* Output lengths of planbook_expand_key: 40, 48 or 56 words of four bytes. */
+#define PLANBOOK_EXPANDED128_BYTES 160
+#define PLANBOOK_EXPANDED192_BYTES 192
+#define PLANBOOK_EXPANDED256_BYTES 224
+
+/* The parts of a book, and its limits. A book of the greatest length may have 4,088 records in 5 sheets. */
+#define PLANBOOK_HEAD_BYTES 4
+#define PLANBOOK_ENTRY_BYTES 24
+#define PLANBOOK_RECORD_BYTES 16
+#define PLANBOOK_MAX_SHEETS 64
+#define PLANBOOK_MAX_SHEET_RECORDS 1024
+#define PLANBOOK_MIN_BOOK_BYTES 4
+#define PLANBOOK_MAX_BOOK_BYTES 65532
+
+/* The first byte of a book. */
+#define PLANBOOK_CLEAR 1
+#define PLANBOOK_SEALED 2
+
+/* The ways: all give the same bytes. If in doubt, take the word tables; make bench measures all three. */
+#define PLANBOOK_WAY_BYTE_TABLES 1 /* the S-boxes as tables of bytes, mixing by field multiplication */
+#define PLANBOOK_WAY_WORD_TABLES 2 /* S-box and mixing together, eight tables of 256 words */
+#define PLANBOOK_WAY_COMPUTED 3    /* the S-boxes computed anew for each byte, no table of 256 entries */
+
+/* The checks. planbook_check_sentence has each one's meaning. */
+#define PLANBOOK_ACCEPTED 0
+#define PLANBOOK_CHECK_KEY_LENGTH 1
+#define PLANBOOK_CHECK_WAY 2
+#define PLANBOOK_CHECK_BLOCK_LENGTH 3
+#define PLANBOOK_CHECK_OUTPUT_LENGTH 4
+#define PLANBOOK_CHECK_BOOK_LENGTH 5
+#define PLANBOOK_CHECK_BOOK_KIND 6
+#define PLANBOOK_CHECK_SHEETS 7
+#define PLANBOOK_CHECK_CONTENTS_CUT 8
+#define PLANBOOK_CHECK_ENTRY 9
+#define PLANBOOK_CHECK_BODY_LENGTH 10
+#define PLANBOOK_CHECK_RECORD 11
+
+/*
+ * The constants of the key schedule for keys of key_length bytes, as words of four bytes, highest first.
+ *
+ *   key_length  16, 24 or 32
+ *   out         out_len bytes; for the three key lengths PLANBOOK_CONSTANTS128_BYTES, PLANBOOK_CONSTANTS192_BYTES and
+ *               PLANBOOK_CONSTANTS256_BYTES
+ *
+ * Checks: 1 (key_length), 4 (out_len). Count: the words written, 60, 84 or 92.
+ */
+uint64_t planbook_constants(uint64_t key_length, uint8_t *out, size_t out_len);
+
+/*
+ * The expanded key (also "prepared key"): four whitening keys, then the round keys, as words of four bytes, highest
+ * first. The other calls expand the key by themselves; this one is for callers that compare or archive expanded keys.
+ *
+ *   key, key_len  the key, 16, 24 or 32 bytes
+ *   way           PLANBOOK_WAY_..
+ *   out           out_len bytes; for the three key lengths PLANBOOK_EXPANDED128_BYTES, PLANBOOK_EXPANDED192_BYTES and
+ *                 PLANBOOK_EXPANDED256_BYTES
+ *
+ * Checks: 1 (key_len), 2 (way), 4 (out_len). Count: the words written, 40, 48 or 56.
+ */
+uint64_t planbook_expand_key(const uint8_t *key, size_t key_len, uint64_t way, uint8_t *out, size_t out_len);
+
+/*
+ * One block, encrypted or decrypted. Each is the inverse of the other under the same key.
+ *
+ *   key, key_len      the key, 16, 24 or 32 bytes
+ *   way               PLANBOOK_WAY_..
+ *   block, block_len  the block, 16 bytes
+ *   out, out_len      the result, 16 bytes
+ *
+ * Checks: 1 (key_len), 2 (way), 3 (block_len), 4 (out_len). Count: 1.
+ */
+uint64_t planbook_encrypt_block(const uint8_t *key, size_t key_len, uint64_t way,
+                                const uint8_t *block, size_t block_len, uint8_t *out, size_t out_len);
+uint64_t planbook_decrypt_block(const uint8_t *key, size_t key_len, uint64_t way,
+                                const uint8_t *block, size_t block_len, uint8_t *out, size_t out_len);
+
+/*
+ * Seals a clear book. Its records keep their places; head and contents stay, but for the first byte.
+ *
+ *   key, key_len    the key, 16, 24 or 32 bytes
+ *   way             PLANBOOK_WAY_..
+ *   book, book_len  the clear book, 4 to 65,532 bytes, at most 64 sheets of 1 to 1,024 records
+ *   out, out_len    the sealed book; out_len is book_len
+ *
+ * Checks: 1 (key_len), 2 (way), 4 (out_len), then of the book 5, 6 (begins with 01 00), 7, 8, 9, 10, 11.
+ * Count: the records in the book; 0 is a good answer, since a book may have no sheet.
+ */
+uint64_t planbook_encrypt_book(const uint8_t *key, size_t key_len, uint64_t way,
+                               const uint8_t *book, size_t book_len, uint8_t *out, size_t out_len);
+
+/*
+ * Opens a sealed book, the inverse of planbook_encrypt_book under the same key. Parameters, limits and count are as there,
+ * with sealed and clear changed about.
+ *
+ * Checks: 1 (key_len), 2 (way), 4 (out_len), then of the book 5, 6 (begins with 02 00), 7, 8, 9, 10, and 11 of the
+ * decrypted records.
+ */
+uint64_t planbook_decrypt_book(const uint8_t *key, size_t key_len, uint64_t way,
+                               const uint8_t *book, size_t book_len, uint8_t *out, size_t out_len);
+
+/* The check of an answer: PLANBOOK_ACCEPTED or PLANBOOK_CHECK_... */
+static inline uint32_t planbook_check(uint64_t answer)
+{
+    return (uint32_t)(answer >> 32);
+}
+
+/* The count of an answer: words, blocks or records; 0 after a refusal. */
+static inline uint32_t planbook_count(uint64_t answer)
+{
+    return (uint32_t)(answer & 0xffffffffu);
+}
+
+/* What a check means, as a sentence without capital and full stop. Never null. */
+static inline const char *planbook_check_sentence(uint32_t check)
+{
+    switch (check) {
+    case PLANBOOK_ACCEPTED: return "accepted";
+    case PLANBOOK_CHECK_KEY_LENGTH: return "the key is not 16, 24 or 32 bytes long";
+    case PLANBOOK_CHECK_WAY: return "the way is not 1, 2 or 3";
+    case PLANBOOK_CHECK_BLOCK_LENGTH: return "the block is not 16 bytes long";
+    case PLANBOOK_CHECK_OUTPUT_LENGTH: return "the output does not have the length that this call demands";
+    case PLANBOOK_CHECK_BOOK_LENGTH: return "the book is shorter than 4 or longer than 65532 bytes";
+    case PLANBOOK_CHECK_BOOK_KIND: return "the book does not begin with 01 00 (clear) for sealing or 02 00 (sealed) for opening";
+    case PLANBOOK_CHECK_SHEETS: return "the book has more than 64 sheets";
+    case PLANBOOK_CHECK_CONTENTS_CUT: return "the book ends before its contents do";
+    case PLANBOOK_CHECK_ENTRY:
+        return "a contents entry is broken: its trial is 0 or not above the one before, its record count is not 1 to 1024, "
+               "or a reserved byte is not zero";
+    case PLANBOOK_CHECK_BODY_LENGTH: return "the book is not as long as its contents say";
+    case PLANBOOK_CHECK_RECORD:
+        return "a record breaks its rule: its sheet's trial, entry at least 1, replicate 1 to 4, three zero bytes at the "
+               "end; in opening, the key may be the wrong one";
+    default: return "there is no check of this number";
+    }
+}
+
+#ifdef __cplusplus
+}
+#endif
+
+#endif

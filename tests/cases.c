@@ -1,0 +1,413 @@
+#include "cases.h"
+
+#include <string.h>
+
+/* splitmix64 */
+uint64_t random_number(generator *g)
+{
+    uint64_t z = g->state += 0x9e3779b97f4a7c15;
+    z = (z ^ z >> 30) * 0xbf58476d1ce4e5b9;
+    z = (z ^ z >> 27) * 0x94d049bb133111eb;
+    return z ^ z >> 31;
+}
+
+uint64_t random_below(generator *g, uint64_t limit)
+{
+    return random_number(g) % limit;
+}
+
+uint64_t random_between(generator *g, uint64_t least, uint64_t most)
+{
+    return least + random_below(g, most - least + 1);
+}
+
+int random_chance(generator *g, uint64_t one_in)
+{
+    return random_below(g, one_in) == 0;
+}
+
+void random_fill(generator *g, uint8_t *bytes, size_t len)
+{
+    while (len > 0) {
+        uint64_t number = random_number(g);
+        size_t part = len < sizeof number ? len : sizeof number;
+        memcpy(bytes, &number, part);
+        bytes += part;
+        len -= part;
+    }
+}
+
+static int has(unsigned set, int check)
+{
+    return set >> check & 1;
+}
+
+unsigned checks_of(call_kind kind)
+{
+    unsigned set = 1u << CHECK_KEY | 1u << CHECK_OUTPUT_LENGTH;
+    if (kind != CALL_CONSTANTS)
+        set |= 1u << CHECK_WAY;
+    if (call_is_block(kind))
+        set |= 1u << CHECK_BLOCK_LENGTH;
+    if (call_is_book(kind))
+        for (int check = CHECK_BOOK_LENGTH; check <= CHECK_RECORD; check++)
+            set |= 1u << check;
+    return set;
+}
+
+static uint64_t one_of(generator *g, const uint64_t *list, size_t count)
+{
+    return list[random_below(g, count)];
+}
+
+#define ONE_OF(g, list) one_of(g, list, sizeof(list) / sizeof(list)[0])
+
+/* Key, way, block and output. */
+
+static const uint64_t permitted_key_lengths[] = {16, 24, 32};
+
+static uint64_t wrong_key_number(generator *g)
+{
+    static const uint64_t numbers[] = {
+        0, 1, 15, 17, 20, 23, 25, 31, 33, 40, 128, 192, 256, 0x110, 0x10010, 0x100000010, 0x100000018,
+        0x100000020, 0x8000000000000010, UINT64_MAX, UINT64_MAX - 15,
+    };
+    uint64_t number = random_chance(g, 2) ? ONE_OF(g, numbers) : random_number(g) >> random_below(g, 60);
+    return number == 16 || number == 24 || number == 32 ? number + 1 : number;
+}
+
+static uint64_t wrong_key_length(generator *g)
+{
+    uint64_t len = random_below(g, MAX_KEY + 1);
+    return len == 16 || len == 24 || len == 32 ? len - 1 : len;
+}
+
+static uint64_t wrong_way(generator *g)
+{
+    static const uint64_t numbers[] = {
+        0, 4, 5, 255, 256, 257, 258, 259, 0x10001, 0x100000001, 0x100000002, 0x100000003, 0x8000000000000001,
+        UINT64_MAX, UINT64_MAX - 2,
+    };
+    uint64_t number = random_chance(g, 2) ? ONE_OF(g, numbers) : random_number(g) >> random_below(g, 60);
+    return number >= 1 && number <= 3 ? number + 3 : number;
+}
+
+static size_t wrong_block_length(generator *g)
+{
+    static const uint64_t lengths[] = {0, 1, 15, 17, 32, 48};
+    size_t len = random_chance(g, 2) ? ONE_OF(g, lengths) : random_below(g, 65);
+    return len == REFERENCE_BLOCK ? len + 1 : len;
+}
+
+static size_t wrong_output_length(generator *g, size_t right)
+{
+    static const uint64_t lengths[] = {0, 1, 4, 15, 16, 17, 32, 40, 56, 60, 92, 160, 192, 224, 240, 336, 368};
+    static const uint64_t steps[] = {1, 4, 16, 64};
+    uint64_t step = ONE_OF(g, steps);
+    size_t len;
+    if (random_chance(g, 2))
+        len = ONE_OF(g, lengths);
+    else
+        len = random_chance(g, 2) || right < step ? right + step : right - step;
+    return len == right ? right + 1 : len;
+}
+
+/* Books. */
+
+static void put_half(uint8_t *bytes, size_t value)
+{
+    bytes[0] = (uint8_t)(value >> 8);
+    bytes[1] = (uint8_t)value;
+}
+
+/* A number of two bytes that is above a limit, often by one or two only. */
+static size_t just_above(generator *g, size_t limit)
+{
+    return random_between(g, limit + 1, random_chance(g, 2) ? limit + 2 : 65535);
+}
+
+static size_t sheets_of(const uint8_t *book)
+{
+    return (size_t)book[2] << 8 | book[3];
+}
+
+static uint8_t *entry_at(uint8_t *book, size_t i)
+{
+    return book + HEAD_LENGTH + ENTRY_LENGTH * i;
+}
+
+static void make_record(generator *g, const uint8_t *trial, uint8_t *record)
+{
+    memset(record, 0, RECORD_LENGTH);
+    memcpy(record, trial, 4);
+    reference_store_word(record + 4, (uint32_t)random_between(g, 1, random_chance(g, 8) ? UINT32_MAX : 500));
+    record[8] = (uint8_t)random_between(g, 1, MAX_REPLICATE);
+    random_fill(g, record + 9, 4);
+}
+
+size_t make_clear_book(generator *g, const book_shape *shape, uint8_t *book)
+{
+    uint8_t *record = entry_at(book, shape->sheets);
+    uint32_t trial = 0;
+    book[0] = CLEAR_BOOK;
+    book[1] = 0;
+    put_half(book + 2, shape->sheets);
+    for (size_t i = 0; i < shape->sheets; i++) {
+        uint8_t *entry = entry_at(book, i);
+        uint32_t most = random_chance(g, 4) ? UINT32_MAX / 100 : 3;
+        trial += (uint32_t)random_between(g, 1, most);
+        if (i + 1 == shape->sheets && random_chance(g, 8))
+            trial = UINT32_MAX;
+        reference_store_word(entry, trial);
+        put_half(entry + 4, shape->counts[i]);
+        put_half(entry + 6, 0);
+        random_fill(g, entry + 8, REFERENCE_BLOCK);
+        for (size_t j = 0; j < shape->counts[i]; j++, record += RECORD_LENGTH)
+            make_record(g, entry, record);
+    }
+    return (size_t)(record - book);
+}
+
+static void fill_shape(generator *g, book_shape *shape, size_t sheets, size_t least, size_t most)
+{
+    shape->sheets = sheets;
+    for (size_t i = 0; i < sheets; i++)
+        shape->counts[i] = random_between(g, least, most);
+}
+
+/* Five sheets of 4,088 records: the longest book there is. */
+static void longest_shape(generator *g, book_shape *shape)
+{
+    size_t rest = 4088;
+    fill_shape(g, shape, 5, 766, 830);
+    for (size_t i = 0; i < 4; i++)
+        rest -= shape->counts[i];
+    shape->counts[4] = rest;
+}
+
+static void choose_shape(generator *g, unsigned damages, book_shape *shape)
+{
+    size_t least = damages == 0 ? 0 : 1;
+    uint64_t size = random_below(g, 2000);
+    if (has(damages, CHECK_SHEET_NUMBER) && random_chance(g, 2))
+        fill_shape(g, shape, random_between(g, MAX_SHEETS + 1, MAX_SHEETS + 20), 1, 2);
+    else if (has(damages, CHECK_BOOK_LENGTH) && random_chance(g, 300))
+        fill_shape(g, shape, 5, 825, 1024);
+    else if (size == 0)
+        longest_shape(g, shape);
+    else if (size == 1)
+        fill_shape(g, shape, random_between(g, 1, 4), 1, MAX_RECORDS);
+    else if (size < 30)
+        fill_shape(g, shape, random_between(g, 1, 8), 1, 40);
+    else if (size < 100)
+        fill_shape(g, shape, random_between(g, 50, 64), 1, 2);
+    else
+        fill_shape(g, shape, random_between(g, least, 4), 1, 4);
+    /* A wrong count whose body is there all the same, so that the length is
+     * right and the entry alone is wrong. */
+    if (has(damages, CHECK_ENTRY) && random_chance(g, 4))
+        shape->counts[random_below(g, shape->sheets)] = random_chance(g, 50) ? MAX_RECORDS + 1 : 0;
+}
+
+static void damage_record(generator *g, uint8_t *book, size_t len)
+{
+    size_t start = HEAD_LENGTH + ENTRY_LENGTH * sheets_of(book);
+    size_t records = (len - start) / RECORD_LENGTH;
+    uint8_t *record;
+    if (records == 0)
+        return;
+    record = book + start + RECORD_LENGTH * random_below(g, records);
+    switch (random_below(g, 5)) {
+    case 0: record[random_below(g, 4)] ^= (uint8_t)random_between(g, 1, 255); break;
+    case 1: reference_store_word(record + 4, 0); break;
+    case 2: record[8] = 0; break;
+    case 3: record[8] = (uint8_t)(random_chance(g, 2) ? 5 : random_between(g, 5, 255)); break;
+    default: record[random_between(g, 13, 15)] = (uint8_t)random_between(g, 1, 255); break;
+    }
+}
+
+static void damage_entry(generator *g, uint8_t *book)
+{
+    size_t i = random_below(g, sheets_of(book));
+    uint8_t *entry = entry_at(book, i);
+    switch (random_below(g, 6)) {
+    case 0: put_half(entry + 4, 0); break;
+    case 1: put_half(entry + 4, just_above(g, MAX_RECORDS)); break;
+    case 2: entry[random_between(g, 6, 7)] = (uint8_t)random_between(g, 1, 255); break;
+    case 3:
+        if (i > 0) {
+            memcpy(entry, entry - ENTRY_LENGTH, 4);
+            break;
+        }
+        /* fall through */
+    case 4:
+        if (i > 0) {
+            reference_store_word(entry, reference_load_word(entry - ENTRY_LENGTH) - 1);
+            break;
+        }
+        /* fall through */
+    default: reference_store_word(entry, 0); break;
+    }
+}
+
+static void damage_head(generator *g, uint8_t *book)
+{
+    if (random_chance(g, 3))
+        book[1] = (uint8_t)random_between(g, 1, 255);
+    else if (random_chance(g, 2))
+        book[0] = book[0] == CLEAR_BOOK ? SEALED_BOOK : CLEAR_BOOK;
+    else
+        book[0] = (uint8_t)random_between(g, 3, 256); /* 256 is cut to 0 */
+}
+
+static void damage_sheet_number(generator *g, uint8_t *book)
+{
+    if (sheets_of(book) <= MAX_SHEETS)
+        put_half(book + 2, just_above(g, MAX_SHEETS));
+}
+
+static size_t damage_length(generator *g, uint8_t *book, size_t len)
+{
+    size_t body = len - HEAD_LENGTH - ENTRY_LENGTH * sheets_of(book);
+    size_t more;
+    switch (random_below(g, 4)) {
+    case 0:
+        if (sheets_of(book) > 0) {
+            put_half(entry_at(book, random_below(g, sheets_of(book))) + 4, random_between(g, 1, MAX_RECORDS));
+            return len;
+        }
+        /* fall through */
+    case 1:
+        if (body > 0)
+            return len - random_between(g, 1, body < 40 ? body : 40);
+        /* fall through */
+    default:
+        more = random_chance(g, 3) ? RECORD_LENGTH : random_between(g, 1, 40);
+        random_fill(g, book + len, more);
+        return len + more;
+    }
+}
+
+static size_t damage_book_length(generator *g, unsigned damages, uint8_t *book, size_t len)
+{
+    unsigned needs_a_head = damages >> CHECK_SHEET_NUMBER;
+    size_t longer = MAX_BOOK_LENGTH + 1 + (random_chance(g, 2) ? 0 : random_below(g, 20000));
+    if (len > MAX_BOOK_LENGTH)
+        return len;
+    if (needs_a_head == 0 && !random_chance(g, 20))
+        return random_below(g, HEAD_LENGTH);
+    random_fill(g, book + len, longer - len);
+    return longer;
+}
+
+static size_t damage_contents_length(generator *g, uint8_t *book, size_t len)
+{
+    size_t contents_end = HEAD_LENGTH + ENTRY_LENGTH * sheets_of(book);
+    size_t too_many = (len - HEAD_LENGTH) / ENTRY_LENGTH + 1;
+    if (len <= MAX_BOOK_LENGTH && contents_end > HEAD_LENGTH && random_chance(g, 2)) {
+        size_t cut = random_chance(g, 4) ? contents_end - 1 : random_between(g, HEAD_LENGTH, contents_end - 1);
+        return cut < len ? cut : len;
+    }
+    put_half(book + 2, random_between(g, too_many, too_many + 2));
+    return len;
+}
+
+static void make_book(generator *g, unsigned damages, test_case *c)
+{
+    static uint8_t clear[MAX_INPUT];
+    uint8_t *book = c->input;
+    book_shape shape;
+    size_t len;
+    choose_shape(g, damages, &shape);
+    len = make_clear_book(g, &shape, book);
+    if (has(damages, CHECK_RECORD))
+        damage_record(g, book, len);
+    if (c->in.kind == CALL_DECRYPT_BOOK) {
+        reference_key key;
+        memcpy(clear, book, len);
+        reference_expand_key(&key, c->key, c->in.key_len);
+        reference_encrypt_bodies(&key, clear, len, book);
+        book[0] = SEALED_BOOK;
+    }
+    if (has(damages, CHECK_ENTRY) && !random_chance(g, 4))
+        damage_entry(g, book);
+    if (has(damages, CHECK_HEAD))
+        damage_head(g, book);
+    if (has(damages, CHECK_LENGTH))
+        len = damage_length(g, book, len);
+    if (has(damages, CHECK_SHEET_NUMBER))
+        damage_sheet_number(g, book);
+    if (has(damages, CHECK_BOOK_LENGTH))
+        len = damage_book_length(g, damages, book, len);
+    if (has(damages, CHECK_CONTENTS_LENGTH) && len >= HEAD_LENGTH)
+        len = damage_contents_length(g, book, len);
+    c->in.input_len = len;
+}
+
+void make_case(generator *g, call_kind kind, unsigned damages, test_case *c)
+{
+    call_input *in = &c->in;
+    memset(in, 0, sizeof *in);
+    in->kind = kind;
+    random_fill(g, c->key, MAX_KEY);
+    in->key_len = ONE_OF(g, permitted_key_lengths);
+    in->way = random_between(g, 1, 3);
+    in->input = c->input;
+    if (call_is_block(kind)) {
+        random_fill(g, c->input, MAX_KEY);
+        in->input_len = has(damages, CHECK_BLOCK_LENGTH) ? wrong_block_length(g) : REFERENCE_BLOCK;
+    }
+    if (call_is_book(kind))
+        make_book(g, damages, c);
+    if (kind != CALL_CONSTANTS)
+        in->key = c->key;
+    if (has(damages, CHECK_WAY))
+        in->way = wrong_way(g);
+    in->out_len = reference_output_length(in);
+    if (has(damages, CHECK_OUTPUT_LENGTH))
+        in->out_len = wrong_output_length(g, in->out_len);
+    if (has(damages, CHECK_KEY))
+        in->key_len = kind == CALL_CONSTANTS ? wrong_key_number(g) : wrong_key_length(g);
+}
+
+void make_changed_case(generator *g, call_kind kind, test_case *c)
+{
+    make_case(g, kind, 0, c);
+    if (kind != CALL_CONSTANTS && random_chance(g, 4)) {
+        c->key[random_below(g, c->in.key_len)] ^= (uint8_t)random_between(g, 1, 255);
+        return;
+    }
+    for (uint64_t changes = random_between(g, 1, 3); changes > 0 && c->in.input_len > 0; changes--)
+        c->input[random_below(g, c->in.input_len)] ^= (uint8_t)random_between(g, 1, 255);
+}
+
+static size_t random_input_length(generator *g)
+{
+    if (random_chance(g, 200))
+        return random_below(g, MAX_INPUT);
+    return random_below(g, random_chance(g, 2) ? 40 : 1000);
+}
+
+void make_random_case(generator *g, call_kind kind, test_case *c)
+{
+    call_input *in = &c->in;
+    make_case(g, kind, 0, c);
+    if (random_chance(g, 8))
+        in->key_len = kind == CALL_CONSTANTS ? random_number(g) : random_below(g, MAX_KEY + 1);
+    if (random_chance(g, 8))
+        in->way = random_below(g, 6);
+    if (call_is_block(kind))
+        in->input_len = random_between(g, 14, 18);
+    if (call_is_book(kind)) {
+        in->input_len = random_input_length(g);
+        random_fill(g, c->input, in->input_len);
+        if (in->input_len >= HEAD_LENGTH && !random_chance(g, 4)) {
+            c->input[0] = (uint8_t)(kind == CALL_ENCRYPT_BOOK ? CLEAR_BOOK : SEALED_BOOK);
+            c->input[1] = 0;
+            put_half(c->input + 2, random_below(g, 4));
+        }
+    }
+    in->out_len = reference_output_length(in);
+    if (random_chance(g, 8) || in->out_len == 0)
+        in->out_len = random_below(g, 400);
+}

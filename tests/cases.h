@@ -1,0 +1,52 @@
+/*
+ * Inputs of every call, made from a seed: valid ones, ones in which given
+ * checks are made to fail, and random ones.
+ */
+#ifndef CASES_H
+#define CASES_H
+
+#include "reference_book.h"
+
+typedef struct {
+    uint64_t state;
+} generator;
+
+uint64_t random_number(generator *g);
+uint64_t random_below(generator *g, uint64_t limit);
+uint64_t random_between(generator *g, uint64_t least, uint64_t most);
+int random_chance(generator *g, uint64_t one_in);
+void random_fill(generator *g, uint8_t *bytes, size_t len);
+
+enum {
+    MAX_KEY = 64,
+    MAX_INPUT = 100000,
+    MAX_OUTPUT = MAX_INPUT + 64,
+    MAX_TEST_SHEETS = 96
+};
+
+typedef struct {
+    call_input in; /* points into key and input */
+    uint8_t key[MAX_KEY];
+    uint8_t input[MAX_INPUT];
+} test_case;
+
+typedef struct {
+    size_t sheets;
+    size_t counts[MAX_TEST_SHEETS];
+} book_shape;
+
+/* The checks that a call has, as bits. */
+unsigned checks_of(call_kind kind);
+
+/* Writes a clear book of this shape, otherwise valid; returns its length. */
+size_t make_clear_book(generator *g, const book_shape *shape, uint8_t *book);
+
+/* A case in which the checks of the set are made to fail, as far as they can
+ * together; an empty set gives an accepted case. */
+void make_case(generator *g, call_kind kind, unsigned damages, test_case *c);
+
+/* A valid case with a few bytes changed, or one of random bytes and lengths. */
+void make_changed_case(generator *g, call_kind kind, test_case *c);
+void make_random_case(generator *g, call_kind kind, test_case *c);
+
+#endif

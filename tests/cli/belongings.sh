@@ -1,0 +1,61 @@
+# Part of tests/cli/run: the header, the installation, the example, the demo and the papers.
+
+test_header() {
+    cd "$here" || exit 2
+    printf '#include <planbook.h>\nint main(void) { return (int)planbook_check(planbook_constants(16, 0, 0)) - 4; }\n' >"$work/use.c"
+    strict='-pedantic -Wall -Wextra -Werror -Wconversion -Wshadow -Iinclude'
+    holds "the header is C99" $cc -std=c99 $strict "$work/use.c" "$PLANBOOK_LIB" -o "$work/use"
+    holds "a C program runs" "$work/use"
+    if command -v c++ >/dev/null; then
+        holds "the header is C++" c++ -std=c++11 -x c++ $strict "$work/use.c" -x none "$PLANBOOK_LIB" -o "$work/use"
+        holds "a C++ program runs" "$work/use"
+    else
+        skip "the header in C++: no c++"
+    fi
+    cd "$work" || exit 2
+}
+
+
+test_install() {
+    cd "$here" || exit 2
+    holds "make install" make -s install CLI_DIR="$built" PREFIX=/opt/planbook DESTDIR="$work/stage" >/dev/null
+    holds "the staged manual page" [ -f "$work/stage/opt/planbook/share/man/man1/planbook.1" ]
+    holds "the staged command runs" "$work/stage/opt/planbook/bin/planbook" --help >/dev/null
+    make -s install CLI_DIR="$built" PREFIX="$work/prefix" >/dev/null
+    if command -v pkg-config >/dev/null; then
+        flags=$(PKG_CONFIG_PATH=$work/prefix/lib/pkgconfig pkg-config --cflags --libs planbook)
+    else
+        skip "the pkg-config file: no pkg-config"
+        flags="-I$work/prefix/include -L$work/prefix/lib -lplanbook"
+    fi
+    holds "the example is built from what is installed" $cc -Wall -Wextra -Werror examples/seal_book.c $flags -o "$work/seal_book"
+    cd "$work" || exit 2
+    unhex 000102030405060708090a0b0c0d0e0f >key
+    "$planbook" seal --key key clear s
+    ./seal_book <clear >t 2>err
+    judge "the example" 0 "records sealed: 1" $?
+    same t s
+    ./seal_book <sealed128 >t 2>err
+    judge "the example with a sealed book" 1 "refused, check 6:" $?
+    rm -f s t
+}
+
+test_papers() {
+    cd "$here" || exit 2
+    if command -v groff >/dev/null; then
+        holds "the manual page has no slips" [ -z "$(groff -mandoc -ww -z cli/planbook.1 2>&1)" ]
+    else
+        skip "the manual page: no groff"
+    fi
+    for option in $("$planbook" --help | grep -oE -e '--[a-z-]+' | sort -u); do
+        holds "the manual page has $option" grep -qE -e "Fl ${option#-}( |\$)" cli/planbook.1
+    done
+    if [ -f README.md ]; then
+        # the program as the README prints it, between its first line and the closing fence
+        sed -n '/^\/\* Seals the clear book on standard input/,/^```/p' README.md | sed '/^```/d' >"$work/readme.c"
+        same "$work/readme.c" examples/seal_book.c
+    fi
+    holds "the demo" make -s demo CLI_DIR="$built" >"$work/demo.txt" 2>&1
+    holds "the demo opens its book" grep -q "The opened book is the clear one" "$work/demo.txt"
+    cd "$work" || exit 2
+}

@@ -1,0 +1,162 @@
+#include "compare.h"
+#include "library.h"
+
+#include <inttypes.h>
+#include <stdarg.h>
+#include <stdio.h>
+#include <stdlib.h>
+#include <string.h>
+
+enum { FENCE = 64 };
+
+generator random_source;
+
+static const char *program;
+static uint64_t seed = 1;
+static uint64_t shorter = 1;
+
+static uint64_t read_number(const char *text)
+{
+    char *end;
+    uint64_t number = strtoull(text, &end, 10);
+    if (*text == '\0' || *end != '\0' || number == 0) {
+        fprintf(stderr, "usage: %s [SEED [SHORTER]], both numbers from 1 on\n", program);
+        exit(2);
+    }
+    return number;
+}
+
+void start_test(const char *name, int argc, char **argv)
+{
+    program = name;
+    setvbuf(stdout, NULL, _IOLBF, 0); /* a long run is watched through pipes too */
+    if (argc > 1)
+        seed = read_number(argv[1]);
+    if (argc > 2)
+        shorter = read_number(argv[2]);
+    random_source.state = seed;
+}
+
+uint64_t scaled(uint64_t number)
+{
+    return number < shorter ? 1 : number / shorter;
+}
+
+void fail(const char *format, ...)
+{
+    va_list arguments;
+    fflush(stdout);
+    fprintf(stderr, "%s: FAILED (seed %" PRIu64 "): ", program, seed);
+    va_start(arguments, format);
+    vfprintf(stderr, format, arguments);
+    va_end(arguments);
+    fputc('\n', stderr);
+    exit(1);
+}
+
+void fail_call(const call_input *in, const char *what, const char *how, ...)
+{
+    char text[200];
+    va_list arguments;
+    va_start(arguments, how);
+    vsnprintf(text, sizeof text, how, arguments);
+    va_end(arguments);
+    fail("%s: %s (key %" PRIu64 " bytes, way %" PRIu64 ", input %zu bytes, output %zu bytes): %s", what,
+         call_name(in->kind), in->key_len, in->way, in->input_len, in->out_len, text);
+}
+
+void fail_answer(const call_input *in, const char *what, uint64_t answer, uint64_t expected)
+{
+    fail_call(in, what, "check %" PRIu64 " and count %" PRIu64 ", expected check %" PRIu64 " and count %" PRIu64,
+              answer >> 32, answer & UINT32_MAX, expected >> 32, expected & UINT32_MAX);
+}
+
+/* Inputs are lent from blocks of just their length, so that a memory checker
+ * sees a byte read behind them. */
+static uint8_t *lend(const uint8_t *bytes, size_t len)
+{
+    uint8_t *lent = malloc(len == 0 ? 1 : len);
+    if (lent == NULL)
+        fail("no memory for %zu bytes", len);
+    if (len > 0)
+        memcpy(lent, bytes, len);
+    return lent;
+}
+
+static size_t first_difference(const uint8_t *a, const uint8_t *b, size_t len)
+{
+    size_t i = 0;
+    while (i < len && a[i] == b[i])
+        i++;
+    return i;
+}
+
+static uint8_t output_before[FENCE + MAX_OUTPUT + FENCE];
+static uint8_t expected_output[FENCE + MAX_OUTPUT + FENCE];
+static uint8_t lent_output[FENCE + MAX_OUTPUT + FENCE];
+
+const uint8_t *last_output(void)
+{
+    return lent_output + FENCE;
+}
+
+/* Fills the output and its two fences, and has the reference give its verdict
+ * and the output that is due. */
+static verdict expect_call(const call_input *in)
+{
+    size_t len = FENCE + in->out_len + FENCE;
+    random_fill(&random_source, output_before, len);
+    memcpy(expected_output, output_before, len);
+    return reference_call(in, expected_output + FENCE);
+}
+
+static void compare_output(const call_input *in, const char *what)
+{
+    size_t len = FENCE + in->out_len + FENCE;
+    size_t at = first_difference(expected_output, lent_output, len);
+    if (at == len)
+        return;
+    if (at < FENCE || at >= FENCE + in->out_len)
+        fail_call(in, what, "a byte beside the output was changed");
+    fail_call(in, what, "output byte %zu is %02x, expected %02x", at - FENCE, lent_output[at], expected_output[at]);
+}
+
+/* Makes the call that expect_call was asked about. */
+static void make_call(const call_input *in, uint64_t expected, const char *what)
+{
+    size_t key_len = in->kind == CALL_CONSTANTS ? 0 : in->key_len;
+    uint8_t *key = lend(in->key, key_len);
+    uint8_t *input = lend(in->input, in->input_len);
+    call_input lent = *in;
+    uint64_t answer;
+    memcpy(lent_output, output_before, FENCE + in->out_len + FENCE);
+    lent.key = key;
+    lent.input = input;
+    answer = library_call(&lent, lent_output + FENCE);
+    if (answer != expected)
+        fail_answer(in, what, answer, expected);
+    compare_output(in, what);
+    if (key_len > 0 && memcmp(key, in->key, key_len) != 0)
+        fail_call(in, what, "the key was changed");
+    if (in->input_len > 0 && memcmp(input, in->input, in->input_len) != 0)
+        fail_call(in, what, "the input was changed");
+    free(key);
+    free(input);
+}
+
+verdict compare_call(const call_input *in, const char *what)
+{
+    verdict v = expect_call(in);
+    make_call(in, v.answer, what);
+    return v;
+}
+
+void compare_ways(const call_input *in, uint64_t answer, const char *what)
+{
+    call_input by_way = *in;
+    verdict v = expect_call(in);
+    if (v.answer != answer)
+        fail_answer(in, "the reference itself", v.answer, answer);
+    for (by_way.way = 1; by_way.way <= WAYS; by_way.way++)
+        make_call(&by_way, answer, what);
+}

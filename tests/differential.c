@@ -1,0 +1,299 @@
+/*
+ * The library against another CLEFIA and against the rules written a second
+ * time: answer and every byte, by all ways.
+ *
+ *   differential [SEED [SHORTER]]
+ */
+#include "compare.h"
+#include "edges.h"
+#include "vectors.h"
+
+#include <inttypes.h>
+#include <stdio.h>
+#include <stdlib.h>
+#include <string.h>
+
+enum {
+    BLOCK_CASES = 100000,   /* for each key length */
+    ROUND_TRIP_BOOKS = 300, /* for each key length */
+    INPUT_CASES = 200000,   /* for each call */
+    LEAST_ANSWERS = 1000,   /* for each check of each call */
+    PAIR_TRIES = 2000       /* to make two checks fail together */
+};
+
+/* What the specification prints: first the reference is held against it, then
+ * the library against the reference. */
+
+static void check_reference(void)
+{
+    if (!reference_tables_are_permutations())
+        fail("a byte table of the reference is not a permutation");
+    for (size_t i = 0; i < KEY_LENGTHS; i++) {
+        const paper_vector *v = &paper_vectors[i];
+        reference_key key;
+        uint8_t block[16];
+        reference_expand_key(&key, v->key, v->key_len);
+        if (memcmp(key.whitening, v->expanded, 16) != 0 ||
+            memcmp(key.round_keys, v->expanded + 4, 4 * (v->words - 4)) != 0)
+            fail("the reference's expanded key is not the printed one, key of %zu bytes", v->key_len);
+        reference_encrypt_block(&key, v->plaintext, block);
+        if (memcmp(block, v->ciphertext, 16) != 0)
+            fail("the reference does not encrypt the printed block, key of %zu bytes", v->key_len);
+        reference_decrypt_block(&key, v->ciphertext, block);
+        if (memcmp(block, v->plaintext, 16) != 0)
+            fail("the reference does not decrypt the printed block, key of %zu bytes", v->key_len);
+    }
+    printf("reference: its tables give the vectors of section 2.5, %d key lengths\n", KEY_LENGTHS);
+}
+
+static void check_vector(const paper_vector *v)
+{
+    call_input constants = {CALL_CONSTANTS, NULL, v->key_len, 0, NULL, 0, 0};
+    call_input expand = {CALL_EXPAND_KEY, v->key, v->key_len, 1, NULL, 0, 4 * v->words};
+    call_input encrypt = {CALL_ENCRYPT_BLOCK, v->key, v->key_len, 1, v->plaintext, 16, 16};
+    call_input decrypt = {CALL_DECRYPT_BLOCK, v->key, v->key_len, 1, v->ciphertext, 16, 16};
+    size_t count;
+    reference_constants(v->key_len, &count);
+    constants.out_len = 4 * count;
+    compare_ways(&constants, count, "printed constants");
+    compare_ways(&expand, v->words, "printed vector");
+    compare_ways(&encrypt, 1, "printed vector");
+    compare_ways(&decrypt, 1, "printed vector");
+}
+
+static void check_vectors(void)
+{
+    for (size_t i = 0; i < KEY_LENGTHS; i++)
+        check_vector(&paper_vectors[i]);
+    printf("vectors: constants, expanded key, encryption and decryption as printed, %d key lengths, %d ways\n",
+           KEY_LENGTHS, WAYS);
+}
+
+/* Random keys and blocks. */
+
+static void compare_block(uint64_t key_len, int with_expansion)
+{
+    uint8_t key[32], block[16];
+    call_input in = {CALL_ENCRYPT_BLOCK, key, key_len, 1, block, 16, 16};
+    random_fill(&random_source, key, key_len);
+    random_fill(&random_source, block, 16);
+    compare_ways(&in, 1, "random block");
+    in.kind = CALL_DECRYPT_BLOCK;
+    compare_ways(&in, 1, "random block");
+    if (with_expansion) {
+        call_input expand = {CALL_EXPAND_KEY, key, key_len, 1, NULL, 0, 0};
+        expand.out_len = reference_output_length(&expand);
+        compare_ways(&expand, expand.out_len / 4, "random key");
+    }
+}
+
+static void compare_blocks(void)
+{
+    uint64_t cases = scaled(BLOCK_CASES);
+    for (uint64_t key_len = 16; key_len <= 32; key_len += 8) {
+        for (uint64_t i = 0; i < cases; i++)
+            compare_block(key_len, i % 10 == 0);
+        printf("blocks: %" PRIu64 " random keys of %" PRIu64 " bytes and blocks, encrypted and decrypted by %d ways; "
+               "every tenth key expanded\n",
+               cases, key_len, WAYS);
+    }
+}
+
+/* Opened after sealed and sealed after opened, by every pair of ways. */
+
+static void call_into(call_input *in, uint8_t *result, const char *what)
+{
+    if (compare_call(in, what).failing != 0)
+        fail_call(in, what, "the reference refuses it");
+    memcpy(result, last_output(), in->out_len);
+}
+
+static void round_trip(const test_case *c, uint64_t way, uint64_t back_way)
+{
+    static uint8_t sealed[MAX_INPUT], opened[MAX_INPUT], resealed[MAX_INPUT];
+    call_input in = c->in;
+    size_t len = in.input_len;
+    in.way = way;
+    call_into(&in, sealed, "round trip");
+    in.kind = CALL_DECRYPT_BOOK;
+    in.way = back_way;
+    in.input = sealed;
+    call_into(&in, opened, "round trip");
+    if (memcmp(opened, c->input, len) != 0)
+        fail_call(&in, "round trip", "way %" PRIu64 " does not decrypt to the book of way %" PRIu64, back_way, way);
+    in.kind = CALL_ENCRYPT_BOOK;
+    in.input = opened;
+    call_into(&in, resealed, "round trip");
+    if (memcmp(resealed, sealed, len) != 0)
+        fail_call(&in, "round trip", "way %" PRIu64 " does not encrypt to the bytes of way %" PRIu64, back_way, way);
+}
+
+static void compare_round_trips(void)
+{
+    static test_case c;
+    uint64_t books = scaled(ROUND_TRIP_BOOKS), records = 0;
+    for (uint64_t key_len = 16; key_len <= 32; key_len += 8)
+        for (uint64_t i = 0; i < books; i++) {
+            make_case(&random_source, CALL_ENCRYPT_BOOK, 0, &c);
+            c.in.key_len = key_len;
+            records += compare_call(&c.in, "round trip").answer;
+            for (uint64_t pair = 0; pair < WAYS * WAYS; pair++)
+                round_trip(&c, 1 + pair / WAYS, 1 + pair % WAYS);
+        }
+    printf("round trips: %" PRIu64 " books (%" PRIu64 " records) encrypted, decrypted, encrypted by %d pairs of ways\n",
+           KEY_LENGTHS * books, records, WAYS * WAYS);
+}
+
+/* Valid, damaged and random inputs of every call. */
+
+static uint64_t answers[CALLS][LAST_CHECK + 1]; /* how often each check was the answer; 0: accepted */
+/* How often a check was the answer while a later one failed too. A pair that
+ * an earlier check hides does not count: it would say nothing about the order
+ * of its two. */
+static uint64_t pairs[CALLS][LAST_CHECK + 1][LAST_CHECK + 1];
+static uint64_t inputs[CALLS];
+static uint64_t long_books[CALLS];
+static size_t longest_accepted;
+
+static void try_case(const test_case *c)
+{
+    call_kind kind = c->in.kind;
+    verdict v = compare_call(&c->in, "random input");
+    inputs[kind]++;
+    answers[kind][v.answer >> 32]++;
+    if (call_is_book(kind) && c->in.input_len >= 10000)
+        long_books[kind]++;
+    if (call_is_book(kind) && v.failing == 0 && c->in.input_len > longest_accepted)
+        longest_accepted = c->in.input_len;
+    for (int b = 1; b <= LAST_CHECK; b++)
+        if (b != (int)(v.answer >> 32) && (v.failing >> b & 1))
+            pairs[kind][v.answer >> 32][b]++;
+}
+
+/* Why two checks cannot fail together in a call, or NULL if they can. */
+static const char *why_impossible(call_kind kind, int a, int b)
+{
+    if (a == CHECK_CONTENTS_LENGTH && b == CHECK_RECORD)
+        return "a book that ends within its contents has no record";
+    if (kind == CALL_DECRYPT_BOOK && a == CHECK_KEY && b == CHECK_RECORD)
+        return "without a key of a permitted length no record can be decrypted and judged";
+    return NULL;
+}
+
+static int in_call(call_kind kind, int check)
+{
+    return checks_of(kind) >> check & 1;
+}
+
+static int random_check(call_kind kind)
+{
+    int check;
+    do
+        check = (int)random_between(&random_source, 1, LAST_CHECK);
+    while (!in_call(kind, check));
+    return check;
+}
+
+/* Makes two checks fail together on purpose, or one alone if they are the
+ * same, until that was met: a short run meets everything too. */
+static void try_pair(call_kind kind, int a, int b)
+{
+    static test_case c;
+    const uint64_t *met = a == b ? &answers[kind][a] : &pairs[kind][a][b];
+    for (int i = 0; i < PAIR_TRIES && *met == 0; i++) {
+        make_case(&random_source, kind, 1u << a | 1u << b, &c);
+        try_case(&c);
+    }
+}
+
+static void try_inputs(call_kind kind)
+{
+    static test_case c;
+    uint64_t cases = scaled(INPUT_CASES);
+    for (int a = 1; a <= LAST_CHECK; a++)
+        for (int b = a; b <= LAST_CHECK; b++)
+            if (in_call(kind, a) && in_call(kind, b) && why_impossible(kind, a, b) == NULL)
+                try_pair(kind, a, b);
+    for (uint64_t i = 0; i < cases; i++) {
+        uint64_t sort = i % 10;
+        unsigned damages = 0;
+        if (sort >= 3)
+            damages |= 1u << random_check(kind);
+        if (sort >= 6)
+            damages |= 1u << random_check(kind);
+        if (sort == 8)
+            make_changed_case(&random_source, kind, &c);
+        else if (sort == 9)
+            make_random_case(&random_source, kind, &c);
+        else
+            make_case(&random_source, kind, damages, &c);
+        try_case(&c);
+    }
+}
+
+/* The account of what was met, which must be enough. */
+
+static void report_answers(call_kind kind)
+{
+    printf("inputs, %s: %" PRIu64 " (%" PRIu64 " accepted; refused by check", call_name(kind), inputs[kind],
+           answers[kind][0]);
+    for (int check = 1; check <= LAST_CHECK; check++)
+        if (in_call(kind, check))
+            printf(" %d: %" PRIu64, check, answers[kind][check]);
+    printf(")\n");
+    if (inputs[kind] < scaled(INPUT_CASES))
+        fail("%s: only %" PRIu64 " inputs", call_name(kind), inputs[kind]);
+    for (int check = 0; check <= LAST_CHECK; check++)
+        if ((check == 0 || in_call(kind, check)) && answers[kind][check] < scaled(LEAST_ANSWERS))
+            fail("%s: check %d was the answer only %" PRIu64 " times, %" PRIu64 " are due", call_name(kind), check,
+                 answers[kind][check], scaled(LEAST_ANSWERS));
+}
+
+static void report_pairs(call_kind kind)
+{
+    unsigned met = 0;
+    printf("pairs, %s:", call_name(kind));
+    for (int a = 1; a <= LAST_CHECK; a++)
+        for (int b = a + 1; b <= LAST_CHECK; b++) {
+            if (!in_call(kind, a) || !in_call(kind, b))
+                continue;
+            if ((pairs[kind][a][b] > 0) == (why_impossible(kind, a, b) != NULL))
+                fail("%s: checks %d and %d failed together %" PRIu64 " times", call_name(kind), a, b,
+                     pairs[kind][a][b]);
+            if (pairs[kind][a][b] > 0) {
+                printf(" %d+%d", a, b);
+                met++;
+            }
+        }
+    printf(" (%u met)\n", met);
+    for (int a = 1; a <= LAST_CHECK; a++)
+        for (int b = a + 1; b <= LAST_CHECK; b++)
+            if (in_call(kind, a) && in_call(kind, b) && why_impossible(kind, a, b) != NULL)
+                printf("pairs, %s: %d+%d impossible: %s\n", call_name(kind), a, b, why_impossible(kind, a, b));
+}
+
+static void compare_inputs(void)
+{
+    for (int kind = 0; kind < CALLS; kind++) {
+        try_inputs((call_kind)kind);
+        report_answers((call_kind)kind);
+        report_pairs((call_kind)kind);
+    }
+    printf("pairs, any call: 3 with 5 to 11 impossible: block calls have no book, book calls no block\n");
+    printf("long books: %" PRIu64 " encrypted, %" PRIu64 " decrypted of 10,000 bytes or more; longest accepted %zu\n",
+           long_books[CALL_ENCRYPT_BOOK], long_books[CALL_DECRYPT_BOOK], longest_accepted);
+}
+
+int main(int argc, char **argv)
+{
+    start_test("differential", argc, argv);
+    check_reference();
+    check_vectors();
+    check_edges();
+    check_wide_numbers();
+    compare_blocks();
+    compare_round_trips();
+    compare_inputs();
+    printf("differential: passed\n");
+    return 0;
+}

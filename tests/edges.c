@@ -1,0 +1,254 @@
+#include "edges.h"
+#include "compare.h"
+
+#include <stdio.h>
+#include <string.h>
+
+static uint8_t key_bytes[MAX_KEY];
+static uint8_t book[MAX_INPUT];
+static size_t book_len;
+static unsigned tried;
+
+static uint64_t refusal(int check)
+{
+    return (uint64_t)check << 32;
+}
+
+static void new_book(size_t sheets, size_t count)
+{
+    book_shape shape = {sheets, {0}};
+    for (size_t i = 0; i < sheets; i++)
+        shape.counts[i] = count;
+    book_len = make_clear_book(&random_source, &shape, book);
+}
+
+static uint8_t *entry(size_t i)
+{
+    return book + HEAD_LENGTH + ENTRY_LENGTH * i;
+}
+
+static uint8_t *record(size_t sheets, size_t j)
+{
+    return entry(sheets) + RECORD_LENGTH * j;
+}
+
+/* Gives the book that is clear to encryption and the same book with its bodies
+ * encrypted to decryption: both must have the stated answer, by every way. */
+static void expect_lengths(uint64_t key_len, size_t out_len, uint64_t answer, const char *what)
+{
+    static uint8_t sealed[MAX_INPUT];
+    call_input in = {CALL_ENCRYPT_BOOK, key_bytes, key_len, 1, book, book_len, out_len};
+    compare_ways(&in, answer, what);
+    memcpy(sealed, book, book_len);
+    if (book_len >= HEAD_LENGTH && (key_len == 16 || key_len == 24 || key_len == 32)) {
+        reference_key key;
+        reference_expand_key(&key, key_bytes, key_len);
+        reference_encrypt_bodies(&key, book, book_len, sealed);
+    }
+    /* The first byte that decryption wants, or one that it does not want. */
+    sealed[0] = book[0] == CLEAR_BOOK ? SEALED_BOOK : book[0] == SEALED_BOOK ? CLEAR_BOOK : book[0];
+    in.kind = CALL_DECRYPT_BOOK;
+    in.input = sealed;
+    compare_ways(&in, answer, what);
+    tried += 2;
+}
+
+static void expect(uint64_t answer, const char *what)
+{
+    expect_lengths(32, book_len, answer, what);
+}
+
+static void check_lengths(void)
+{
+    static const uint64_t wrong_keys[] = {0, 15, 17, 23, 25, 31, 33, 64};
+    new_book(2, 3);
+    for (size_t i = 0; i < sizeof wrong_keys / sizeof wrong_keys[0]; i++)
+        expect_lengths(wrong_keys[i], book_len, refusal(1), "key of a wrong length");
+    for (uint64_t key_len = 16; key_len <= 32; key_len += 8)
+        expect_lengths(key_len, book_len, 6, "key of a permitted length");
+    expect_lengths(32, book_len - 1, refusal(4), "output one byte short");
+    expect_lengths(32, book_len + 1, refusal(4), "output one byte long");
+    book_len = 3;
+    expect(refusal(5), "book of 3 bytes");
+    expect_lengths(32, 4, refusal(4), "book of 3 bytes, output of 4");
+    book_len = 0;
+    expect(refusal(5), "book of no bytes");
+}
+
+static void check_sizes(void)
+{
+    book_shape shape = {5, {1024, 1024, 1024, 1015, 1}};
+    book_len = make_clear_book(&random_source, &shape, book);
+    if (book_len != 65532)
+        fail("the longest book is made %zu bytes long", book_len);
+    expect(4088, "5 sheets, 4,088 records, 65,532 bytes");
+    book_len++;
+    expect(refusal(5), "65,533 bytes");
+    shape.counts[4] = 2;
+    book_len = make_clear_book(&random_source, &shape, book);
+    expect(refusal(5), "5 sheets, 4,089 records");
+    new_book(0, 0);
+    expect(0, "no sheets");
+    new_book(1, 1);
+    expect(1, "one record");
+    new_book(1, 1024);
+    expect(1024, "sheet of 1,024 records");
+    new_book(1, 1025);
+    expect(refusal(9), "sheet of 1,025 records");
+    new_book(1, 0);
+    expect(refusal(9), "sheet of no records");
+    new_book(64, 1);
+    expect(64, "64 sheets");
+    new_book(65, 1);
+    expect(refusal(7), "65 sheets");
+}
+
+static void check_head_and_contents(void)
+{
+    static const uint8_t wrong_kinds[] = {0, 2, 3, 0x81, 0xff};
+    new_book(3, 2);
+    for (size_t i = 0; i < sizeof wrong_kinds; i++) {
+        book[0] = wrong_kinds[i];
+        expect(refusal(6), "wrong first byte");
+    }
+    new_book(3, 2);
+    book[1] = 1;
+    expect(refusal(6), "wrong second byte");
+    new_book(3, 2);
+    book[2] = 1;
+    expect(refusal(7), "256 sheets more than there are");
+    new_book(3, 2);
+    book_len = 4 + 24 * 3 - 1;
+    expect(refusal(8), "contents one byte short");
+    book_len++;
+    expect(refusal(10), "contents, but no body");
+    new_book(3, 2);
+    book_len--;
+    expect(refusal(10), "body one byte short");
+    book_len += 2;
+    expect(refusal(10), "one byte behind the body");
+    new_book(0, 0);
+    book_len = 20;
+    expect(refusal(10), "a record, but no sheet");
+    new_book(3, 2);
+    entry(2)[5] = 3;
+    expect(refusal(10), "a count that is one too many");
+}
+
+static void expect_entry(size_t i, unsigned at, uint8_t value, const char *what)
+{
+    new_book(3, 2);
+    entry(i)[at] = value;
+    expect(refusal(9), what);
+}
+
+static void check_entries(void)
+{
+    for (size_t i = 0; i < 3; i++) {
+        expect_entry(i, 6, 1, "first zero byte of an entry");
+        expect_entry(i, 7, 0x80, "second zero byte of an entry");
+        new_book(3, 2);
+        reference_store_word(entry(i), 0);
+        expect(refusal(9), "trial 0");
+    }
+    new_book(3, 2);
+    memcpy(entry(1), entry(0), 4);
+    expect(refusal(9), "two entries of one trial");
+    new_book(3, 2);
+    reference_store_word(entry(2), reference_load_word(entry(1)) - 1);
+    expect(refusal(9), "falling trials");
+}
+
+/* Some byte of the last record set to a value. */
+static void expect_record(unsigned at, uint8_t value, uint64_t answer, const char *what)
+{
+    new_book(3, 2);
+    record(3, 5)[at] = value;
+    expect(answer, what);
+}
+
+static void check_records(void)
+{
+    for (unsigned replicate = 0; replicate < 256; replicate++)
+        expect_record(8, (uint8_t)replicate, replicate >= 1 && replicate <= 4 ? 6 : refusal(11), "replicate");
+    for (unsigned at = 9; at <= 12; at++) {
+        expect_record(at, 0x00, 6, "row or column");
+        expect_record(at, 0xff, 6, "row or column");
+    }
+    for (unsigned at = 13; at <= 15; at++)
+        expect_record(at, 1, refusal(11), "zero byte of a record");
+    for (size_t j = 0; j < 6; j++) {
+        new_book(3, 2);
+        reference_store_word(record(3, j) + 4, 0);
+        expect(refusal(11), "entry 0");
+        reference_store_word(record(3, j) + 4, UINT32_MAX);
+        expect(6, "highest entry");
+        memcpy(record(3, j), entry(j / 2 == 0 ? 1 : 0), 4);
+        expect(refusal(11), "trial of another sheet");
+    }
+}
+
+void check_edges(void)
+{
+    tried = 0;
+    random_fill(&random_source, key_bytes, sizeof key_bytes);
+    check_lengths();
+    check_sizes();
+    check_head_and_contents();
+    check_entries();
+    check_records();
+    printf("edges: %u books with a stated answer, each by %d ways\n", tried, WAYS);
+}
+
+static unsigned expect_ways(call_input in, uint64_t accepted)
+{
+    static const uint64_t refused[] = {
+        0, 4, 257, 258, 259, 0x10001, 0x100000001, 0x100000002, 0x100000003, 0x8000000000000001, UINT64_MAX,
+    };
+    size_t count = sizeof refused / sizeof refused[0];
+    for (in.way = 1; in.way <= WAYS; in.way++)
+        if (compare_call(&in, "permitted way").answer != accepted)
+            fail_call(&in, "permitted way", "the reference does not accept it");
+    for (size_t i = 0; i < count; i++) {
+        in.way = refused[i];
+        if (compare_call(&in, "way as a 64-bit number").answer != refusal(2))
+            fail_call(&in, "way as a 64-bit number", "the reference does not refuse it");
+    }
+    return (unsigned)count;
+}
+
+static unsigned expect_key_lengths(void)
+{
+    static const uint64_t refused[] = {
+        0, 8, 15, 17, 128, 192, 256, 0x110, 0x10010, 0x100000010, 0x100000018, 0x100000020, 0x8000000000000010,
+        UINT64_MAX - 15,
+    };
+    size_t count = sizeof refused / sizeof refused[0];
+    call_input in = {CALL_CONSTANTS, NULL, 16, 0, NULL, 0, 0};
+    for (size_t i = 0; i < count; i++)
+        for (size_t words = 60; words <= 92; words += words == 60 ? 24 : 8) {
+            in.key_len = refused[i];
+            in.out_len = 4 * words;
+            compare_ways(&in, refusal(1), "key length as a 64-bit number");
+        }
+    return (unsigned)count;
+}
+
+void check_wide_numbers(void)
+{
+    call_input expand = {CALL_EXPAND_KEY, key_bytes, 16, 1, NULL, 0, 160};
+    call_input block = {CALL_ENCRYPT_BLOCK, key_bytes, 16, 1, book, 16, 16};
+    call_input whole = {CALL_ENCRYPT_BOOK, key_bytes, 16, 1, book, 0, 0};
+    unsigned ways = expect_ways(expand, 40);
+    expect_ways(block, 1);
+    block.kind = CALL_DECRYPT_BLOCK;
+    expect_ways(block, 1);
+    new_book(0, 0);
+    whole.input_len = whole.out_len = book_len;
+    expect_ways(whole, 0);
+    whole.kind = CALL_DECRYPT_BOOK;
+    book[0] = SEALED_BOOK;
+    expect_ways(whole, 0);
+    printf("64-bit numbers: %u ways refused by five calls, %u key lengths refused for constants\n", ways,
+           expect_key_lengths());
+}

@@ -1,0 +1,12 @@
+/* Cases that are named one by one, each with its answer stated. */
+#ifndef EDGES_H
+#define EDGES_H
+
+/* The edges of the book's rules. */
+void check_edges(void);
+
+/* Ways, key lengths and counts as 64-bit numbers: none may be cut to its low
+ * bits. */
+void check_wide_numbers(void);
+
+#endif

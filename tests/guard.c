@@ -1,0 +1,283 @@
+/*
+ * What a call may touch: everything lent is fenced by pages that cannot be
+ * read or written, inputs are read-only, and where a call is to be refused its
+ * output is lent read-only once more.
+ *
+ *   guard [SEED [SHORTER]]
+ */
+#define _DEFAULT_SOURCE
+
+#include "compare.h"
+#include "library.h"
+
+#include <inttypes.h>
+#include <signal.h>
+#include <stdio.h>
+#include <string.h>
+#include <sys/mman.h>
+#include <unistd.h>
+
+enum { GUARD_CASES = 2500 /* for each call */ };
+
+typedef enum { AT_END, AT_START } placement;
+
+typedef struct {
+    uint8_t *mapping;
+    size_t mapped;
+    uint8_t *room; /* the pages between the two fences */
+    size_t room_len;
+    uint8_t *bytes; /* the lent bytes, against one of the fences */
+} fenced;
+
+static size_t page;
+
+/* A forbidden access ends the test; the text says which call was made. */
+static char current_call[200];
+
+static void report_fault(int signal_number)
+{
+    static const char text[] = "guard: FAILED: a call touched memory that it must not touch: ";
+    (void)signal_number;
+    if (write(2, text, sizeof text - 1) < 0 || write(2, current_call, strlen(current_call)) < 0 ||
+        write(2, "\n", 1) < 0)
+        _exit(2);
+    _exit(1);
+}
+
+static void name_call(const call_input *in, const char *what)
+{
+    snprintf(current_call, sizeof current_call,
+             "%s, %s (key %" PRIu64 " bytes, way %" PRIu64 ", input %zu bytes, output %zu bytes)", what,
+             call_name(in->kind), in->key_len, in->way, in->input_len, in->out_len);
+}
+
+static void protect(uint8_t *from, size_t len, int access)
+{
+    if (len > 0 && mprotect(from, len, access) != 0)
+        fail("mprotect refuses");
+}
+
+/* Room for len bytes with a fence on either side. The rest of the room, less
+ * than a page, is filled at random and looked at afterwards. */
+static fenced new_fenced(size_t len, placement where)
+{
+    fenced f;
+    f.room_len = (len + page - 1) / page * page;
+    f.mapped = f.room_len + 2 * page;
+    f.mapping = mmap(NULL, f.mapped, PROT_NONE, MAP_PRIVATE | MAP_ANONYMOUS, -1, 0);
+    if (f.mapping == MAP_FAILED)
+        fail("mmap refuses %zu bytes", f.mapped);
+    f.room = f.mapping + page;
+    protect(f.room, f.room_len, PROT_READ | PROT_WRITE);
+    random_fill(&random_source, f.room, f.room_len);
+    f.bytes = where == AT_END ? f.room + f.room_len - len : f.room;
+    return f;
+}
+
+static fenced fenced_input(const uint8_t *bytes, size_t len, placement where)
+{
+    fenced f = new_fenced(len, where);
+    if (len > 0)
+        memcpy(f.bytes, bytes, len);
+    protect(f.room, f.room_len, PROT_READ);
+    return f;
+}
+
+static void unmap_fenced(fenced *f)
+{
+    if (munmap(f->mapping, f->mapped) != 0)
+        fail("munmap refuses");
+}
+
+/* The room of the output after the call: the lent bytes as the reference has
+ * them, all others as before. */
+static void compare_room(const call_input *in, const fenced *out, const uint8_t *expected)
+{
+    for (size_t i = 0; i < out->room_len; i++)
+        if (out->room[i] != expected[i])
+            fail_call(in, "fenced", "byte %td of the output is %02x, expected %02x", out->room + i - out->bytes,
+                      out->room[i], expected[i]);
+}
+
+static verdict fenced_call(const call_input *in, placement where, int output_access)
+{
+    static uint8_t expected[MAX_OUTPUT + 2 * 65536];
+    size_t key_len = in->kind == CALL_CONSTANTS ? 0 : in->key_len;
+    fenced key = fenced_input(in->key, key_len, where);
+    fenced input = fenced_input(in->input, in->input_len, where);
+    fenced out = new_fenced(in->out_len, where);
+    call_input lent = *in;
+    verdict v;
+    uint64_t answer;
+    memcpy(expected, out.room, out.room_len);
+    v = reference_call(in, expected + (out.bytes - out.room));
+    lent.key = key.bytes;
+    lent.input = input.bytes;
+    protect(out.room, out.room_len, output_access);
+    name_call(in, output_access == PROT_READ ? "output lent read-only to a refusal" : "fenced");
+    answer = library_call(&lent, out.bytes);
+    if (answer != v.answer)
+        fail_answer(in, "fenced", answer, v.answer);
+    compare_room(in, &out, expected);
+    unmap_fenced(&key);
+    unmap_fenced(&input);
+    unmap_fenced(&out);
+    return v;
+}
+
+static uint64_t accepted, refused;
+
+static void guard_case(const test_case *c)
+{
+    verdict v = fenced_call(&c->in, AT_END, PROT_READ | PROT_WRITE);
+    fenced_call(&c->in, AT_START, PROT_READ | PROT_WRITE);
+    if (v.failing == 0) {
+        accepted++;
+        return;
+    }
+    refused++;
+    fenced_call(&c->in, AT_END, PROT_READ);
+}
+
+/* A valid case with every length that its key, input or output can be given,
+ * up to a little above the right one. */
+static void guard_lengths(call_kind kind)
+{
+    static test_case c;
+    call_input right;
+    do
+        make_case(&random_source, kind, 0, &c);
+    while (call_is_book(kind) && (c.in.input_len < 50 || c.in.input_len > 300));
+    right = c.in;
+    for (c.in.key_len = 0; c.in.key_len <= MAX_KEY; c.in.key_len++)
+        guard_case(&c);
+    c.in = right;
+    for (c.in.out_len = 0; c.in.out_len <= right.out_len + 20; c.in.out_len++)
+        guard_case(&c);
+    if (!call_is_block(kind) && !call_is_book(kind))
+        return;
+    c.in = right;
+    for (c.in.input_len = 0; c.in.input_len <= right.input_len + 20; c.in.input_len++) {
+        c.in.out_len = reference_output_length(&c.in);
+        guard_case(&c);
+    }
+}
+
+static void guard_calls(void)
+{
+    static test_case c;
+    uint64_t cases = scaled(GUARD_CASES);
+    for (int kind = 0; kind < CALLS; kind++)
+        for (uint64_t i = 0; i < cases; i++) {
+            unsigned damages = checks_of((call_kind)kind) & 1u << random_between(&random_source, 1, LAST_CHECK);
+            if (random_chance(&random_source, 8))
+                make_random_case(&random_source, (call_kind)kind, &c);
+            else
+                make_case(&random_source, (call_kind)kind, damages, &c);
+            guard_case(&c);
+        }
+    /* Each refusal and each length for certain, in a short run too. */
+    for (int kind = 0; kind < CALLS; kind++) {
+        for (int check = 1; check <= LAST_CHECK; check++)
+            if (checks_of((call_kind)kind) >> check & 1) {
+                make_case(&random_source, (call_kind)kind, 1u << check, &c);
+                guard_case(&c);
+            }
+        guard_lengths((call_kind)kind);
+    }
+    printf("guard: %" PRIu64 " accepted and %" PRIu64 " refused calls between guard pages\n", accepted, refused);
+}
+
+/* Answers that are stated here, for memory that the reference is not asked about. */
+static unsigned stated;
+
+static void expect(const call_input *in, uint8_t *out, int check, const char *what)
+{
+    uint64_t answer;
+    name_call(in, what);
+    answer = library_call(in, out);
+    if (answer != (uint64_t)check << 32)
+        fail_answer(in, what, answer, (uint64_t)check << 32);
+    stated++;
+}
+
+static void null_pointers(void)
+{
+    uint8_t out[368] = {0}, key[16] = {0}, block[16] = {0}, book[4] = {0, 0, 0, 0};
+    stated = 0;
+    expect(&(call_input){CALL_CONSTANTS, NULL, 16, 0, NULL, 0, 0}, NULL, 4, "null output");
+    expect(&(call_input){CALL_CONSTANTS, NULL, 17, 0, NULL, 0, 0}, NULL, 1, "null output");
+    for (uint64_t way = 1; way <= WAYS; way++) {
+        expect(&(call_input){CALL_EXPAND_KEY, NULL, 0, way, NULL, 0, 160}, out, 1, "null key");
+        expect(&(call_input){CALL_EXPAND_KEY, key, 16, way, NULL, 0, 0}, NULL, 4, "null output");
+        expect(&(call_input){CALL_EXPAND_KEY, NULL, 0, way, NULL, 0, 0}, NULL, 1, "null key and output");
+        for (int kind = CALL_ENCRYPT_BLOCK; kind <= CALL_DECRYPT_BLOCK; kind++) {
+            expect(&(call_input){(call_kind)kind, NULL, 0, way, block, 16, 16}, out, 1, "null key");
+            expect(&(call_input){(call_kind)kind, key, 16, way, NULL, 0, 16}, out, 3, "null block");
+            expect(&(call_input){(call_kind)kind, key, 16, way, block, 16, 0}, NULL, 4, "null output");
+            expect(&(call_input){(call_kind)kind, NULL, 0, way, NULL, 0, 0}, NULL, 1, "all null");
+        }
+        for (int kind = CALL_ENCRYPT_BOOK; kind <= CALL_DECRYPT_BOOK; kind++) {
+            book[0] = kind == CALL_ENCRYPT_BOOK ? CLEAR_BOOK : SEALED_BOOK;
+            expect(&(call_input){(call_kind)kind, NULL, 0, way, book, 4, 4}, out, 1, "null key");
+            expect(&(call_input){(call_kind)kind, key, 16, way, NULL, 0, 4}, out, 4, "null book");
+            expect(&(call_input){(call_kind)kind, key, 16, way, book, 4, 0}, NULL, 4, "null output");
+            expect(&(call_input){(call_kind)kind, key, 16, way, NULL, 0, 0}, NULL, 5, "null book and output");
+            expect(&(call_input){(call_kind)kind, NULL, 0, way, NULL, 0, 0}, NULL, 1, "all null");
+        }
+    }
+    for (size_t i = 0; i < sizeof out; i++)
+        if (out[i] != 0)
+            fail("a refusal beside a null pointer changed output byte %zu", i);
+    printf("guard: %u calls with null pointers of length 0\n", stated);
+}
+
+/* Lengths of 2^32 and a permitted rest, in memory that is there: a length cut
+ * to 32 bits would be accepted. */
+static void wide_lengths(void)
+{
+    const size_t wide = (size_t)1 << 32;
+    const size_t mapped = wide + 4096;
+    uint8_t *m = mmap(NULL, mapped, PROT_READ, MAP_PRIVATE | MAP_ANONYMOUS | MAP_NORESERVE, -1, 0);
+    uint8_t key[16] = {0}, block[16] = {0}, book[4] = {0, 0, 0, 0};
+    if (m == MAP_FAILED) {
+        printf("guard: no address space for lengths above 2^32, skipped\n");
+        return;
+    }
+    stated = 0;
+    expect(&(call_input){CALL_CONSTANTS, NULL, 16, 0, NULL, 0, wide + 240}, m, 4, "wide output");
+    for (uint64_t way = 1; way <= WAYS; way++) {
+        expect(&(call_input){CALL_EXPAND_KEY, m, wide + 16, way, NULL, 0, 160}, m, 1, "wide key");
+        expect(&(call_input){CALL_EXPAND_KEY, key, 16, way, NULL, 0, wide + 160}, m, 4, "wide output");
+        for (int kind = CALL_ENCRYPT_BLOCK; kind <= CALL_DECRYPT_BLOCK; kind++) {
+            expect(&(call_input){(call_kind)kind, m, wide + 16, way, block, 16, 16}, m, 1, "wide key");
+            expect(&(call_input){(call_kind)kind, key, 16, way, m, wide + 16, 16}, m, 3, "wide block");
+            expect(&(call_input){(call_kind)kind, key, 16, way, block, 16, wide + 16}, m, 4, "wide output");
+        }
+        for (int kind = CALL_ENCRYPT_BOOK; kind <= CALL_DECRYPT_BOOK; kind++) {
+            book[0] = kind == CALL_ENCRYPT_BOOK ? CLEAR_BOOK : SEALED_BOOK;
+            expect(&(call_input){(call_kind)kind, m, wide + 16, way, book, 4, 4}, m, 1, "wide key");
+            expect(&(call_input){(call_kind)kind, key, 16, way, book, 4, wide + 4}, m, 4, "wide output");
+            expect(&(call_input){(call_kind)kind, key, 16, way, m, wide + 4, 4}, m, 4, "wide book");
+            expect(&(call_input){(call_kind)kind, key, 16, way, m, wide + 4, wide + 4}, m, 5, "wide book and output");
+        }
+    }
+    munmap(m, mapped);
+    printf("guard: %u calls with lengths above 2^32\n", stated);
+}
+
+int main(int argc, char **argv)
+{
+    struct sigaction action;
+    memset(&action, 0, sizeof action);
+    action.sa_handler = report_fault;
+    start_test("guard", argc, argv);
+    page = (size_t)sysconf(_SC_PAGESIZE);
+    if (sigaction(SIGSEGV, &action, NULL) != 0 || sigaction(SIGBUS, &action, NULL) != 0)
+        fail("no handler for forbidden accesses");
+    guard_calls();
+    null_pointers();
+    wide_lengths();
+    printf("guard: passed\n");
+    return 0;
+}

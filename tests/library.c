@@ -1,0 +1,20 @@
+#include "library.h"
+#include "planbook.h"
+
+uint64_t library_call(const call_input *in, uint8_t *out)
+{
+    switch (in->kind) {
+    case CALL_CONSTANTS:
+        return planbook_constants(in->key_len, out, in->out_len);
+    case CALL_EXPAND_KEY:
+        return planbook_expand_key(in->key, in->key_len, in->way, out, in->out_len);
+    case CALL_ENCRYPT_BLOCK:
+        return planbook_encrypt_block(in->key, in->key_len, in->way, in->input, in->input_len, out, in->out_len);
+    case CALL_DECRYPT_BLOCK:
+        return planbook_decrypt_block(in->key, in->key_len, in->way, in->input, in->input_len, out, in->out_len);
+    case CALL_ENCRYPT_BOOK:
+        return planbook_encrypt_book(in->key, in->key_len, in->way, in->input, in->input_len, out, in->out_len);
+    default:
+        return planbook_decrypt_book(in->key, in->key_len, in->way, in->input, in->input_len, out, in->out_len);
+    }
+}

@@ -1,0 +1,327 @@
+#include "reference_book.h"
+
+#include <stdio.h>
+#include <stdlib.h>
+#include <string.h>
+
+static unsigned bit(int check)
+{
+    return 1u << check;
+}
+
+static size_t load_half(const uint8_t *bytes)
+{
+    return (size_t)bytes[0] << 8 | bytes[1];
+}
+
+const char *call_name(call_kind kind)
+{
+    static const char *const names[CALLS] = {
+        "constants", "expand key", "encrypt block", "decrypt block", "encrypt book", "decrypt book",
+    };
+    return names[kind];
+}
+
+int call_is_block(call_kind kind)
+{
+    return kind == CALL_ENCRYPT_BLOCK || kind == CALL_DECRYPT_BLOCK;
+}
+
+int call_is_book(call_kind kind)
+{
+    return kind == CALL_ENCRYPT_BOOK || kind == CALL_DECRYPT_BOOK;
+}
+
+/* Checks 1 to 4. */
+
+static int key_length_permitted(uint64_t len)
+{
+    return len == 16 || len == 24 || len == 32;
+}
+
+static size_t words_for(call_kind kind, uint64_t key_len)
+{
+    if (kind == CALL_CONSTANTS)
+        return key_len == 16 ? 60 : key_len == 24 ? 84 : key_len == 32 ? 92 : 0;
+    return key_len == 16 ? 40 : key_len == 24 ? 48 : key_len == 32 ? 56 : 0;
+}
+
+size_t reference_output_length(const call_input *in)
+{
+    if (call_is_book(in->kind))
+        return in->input_len;
+    if (call_is_block(in->kind))
+        return REFERENCE_BLOCK;
+    return 4 * words_for(in->kind, in->key_len);
+}
+
+static int output_length_wrong(const call_input *in)
+{
+    size_t len = in->out_len;
+    if (call_is_book(in->kind) || call_is_block(in->kind) || key_length_permitted(in->key_len))
+        return len != reference_output_length(in);
+    return len != 4 * words_for(in->kind, 16) && len != 4 * words_for(in->kind, 24) &&
+           len != 4 * words_for(in->kind, 32);
+}
+
+static unsigned failing_before_book(const call_input *in)
+{
+    unsigned failing = 0;
+    if (!key_length_permitted(in->key_len))
+        failing |= bit(CHECK_KEY);
+    if (in->kind != CALL_CONSTANTS && in->way != 1 && in->way != 2 && in->way != 3)
+        failing |= bit(CHECK_WAY);
+    if (call_is_block(in->kind) && in->input_len != REFERENCE_BLOCK)
+        failing |= bit(CHECK_BLOCK_LENGTH);
+    if (output_length_wrong(in))
+        failing |= bit(CHECK_OUTPUT_LENGTH);
+    return failing;
+}
+
+/* What can be read of a book, whatever is wrong with it. */
+typedef struct {
+    const uint8_t *bytes;
+    size_t len;
+    size_t sheets;  /* as the head says */
+    size_t entries; /* those that lie whole in the book */
+    size_t records; /* the sum of the entries' counts */
+} book_view;
+
+static const uint8_t *entry_of(const book_view *book, size_t i)
+{
+    return book->bytes + HEAD_LENGTH + ENTRY_LENGTH * i;
+}
+
+static size_t count_of(const book_view *book, size_t i)
+{
+    return load_half(entry_of(book, i) + 4);
+}
+
+static size_t contents_end(const book_view *book)
+{
+    return HEAD_LENGTH + ENTRY_LENGTH * book->sheets;
+}
+
+static book_view view_book(const uint8_t *bytes, size_t len)
+{
+    book_view book = {bytes, len, load_half(bytes + 2), 0, 0};
+    book.entries = (len - HEAD_LENGTH) / ENTRY_LENGTH;
+    if (book.entries > book.sheets)
+        book.entries = book.sheets;
+    for (size_t i = 0; i < book.entries; i++)
+        book.records += count_of(&book, i);
+    return book;
+}
+
+static int entry_holds(const book_view *book, size_t i)
+{
+    const uint8_t *entry = entry_of(book, i);
+    uint32_t trial = reference_load_word(entry);
+    uint32_t before = i == 0 ? 0 : reference_load_word(entry_of(book, i - 1));
+    size_t count = count_of(book, i);
+    return trial > before && count >= 1 && count <= MAX_RECORDS && entry[6] == 0 && entry[7] == 0;
+}
+
+static int some_entry_broken(const book_view *book)
+{
+    for (size_t i = 0; i < book->entries; i++)
+        if (!entry_holds(book, i))
+            return 1;
+    return 0;
+}
+
+/* The records of a sheet that lie whole in the book, from *at on; moves *at
+ * behind the sheet's body. */
+static size_t records_there(const book_view *book, size_t sheet, size_t *at)
+{
+    size_t start = *at;
+    *at += RECORD_LENGTH * count_of(book, sheet);
+    if (*at <= book->len)
+        return count_of(book, sheet);
+    return start < book->len ? (book->len - start) / RECORD_LENGTH : 0;
+}
+
+static int record_holds(const uint8_t *record, const uint8_t *entry)
+{
+    return memcmp(record, entry, 4) == 0 && reference_load_word(record + 4) != 0 && record[8] >= 1 &&
+           record[8] <= MAX_REPLICATE && record[13] == 0 && record[14] == 0 && record[15] == 0;
+}
+
+/* CBC. */
+
+static void xor_block(uint8_t *to, const uint8_t *a, const uint8_t *b)
+{
+    for (unsigned i = 0; i < REFERENCE_BLOCK; i++)
+        to[i] = a[i] ^ b[i];
+}
+
+static void encrypt_record(const reference_key *key, const uint8_t *chain, const uint8_t *in, uint8_t *out)
+{
+    uint8_t block[REFERENCE_BLOCK];
+    xor_block(block, in, chain);
+    reference_encrypt_block(key, block, out);
+}
+
+static void decrypt_record(const reference_key *key, const uint8_t *chain, const uint8_t *in, uint8_t *out)
+{
+    uint8_t block[REFERENCE_BLOCK];
+    reference_decrypt_block(key, in, block);
+    xor_block(out, block, chain);
+}
+
+/* Whether some record that is there breaks its rule. clear is a copy of the
+ * book; with a key, its records are decrypted up to the first that does. */
+static int some_record_breaks_rule(const book_view *book, const reference_key *key, uint8_t *clear)
+{
+    size_t next = contents_end(book);
+    if (book->entries < book->sheets)
+        return 0;
+    for (size_t i = 0; i < book->sheets; i++) {
+        const uint8_t *chain = entry_of(book, i) + 8;
+        size_t at = next;
+        size_t there = records_there(book, i, &next);
+        for (size_t j = 0; j < there; j++, at += RECORD_LENGTH) {
+            if (key != NULL)
+                decrypt_record(key, chain, book->bytes + at, clear + at);
+            chain = book->bytes + at;
+            if (!record_holds(clear + at, entry_of(book, i)))
+                return 1;
+        }
+    }
+    return 0;
+}
+
+/* Each sheet begins at its own iv. */
+void reference_encrypt_bodies(const reference_key *key, const uint8_t *bytes, size_t len, uint8_t *out)
+{
+    book_view book = view_book(bytes, len);
+    size_t next = contents_end(&book);
+    memcpy(out, bytes, len);
+    if (book.entries < book.sheets)
+        return;
+    for (size_t i = 0; i < book.sheets; i++) {
+        const uint8_t *chain = entry_of(&book, i) + 8;
+        size_t at = next;
+        size_t there = records_there(&book, i, &next);
+        for (size_t j = 0; j < there; j++, at += RECORD_LENGTH) {
+            encrypt_record(key, chain, bytes + at, out + at);
+            chain = out + at;
+        }
+    }
+}
+
+/* Checks 5 to 11. */
+
+static unsigned failing_head(const call_input *in)
+{
+    unsigned permitted = in->kind == CALL_ENCRYPT_BOOK ? CLEAR_BOOK : SEALED_BOOK;
+    unsigned failing = 0;
+    if (in->input_len < HEAD_LENGTH || in->input_len > MAX_BOOK_LENGTH)
+        failing |= bit(CHECK_BOOK_LENGTH);
+    if ((in->input_len > 0 && in->input[0] != permitted) || (in->input_len > 1 && in->input[1] != 0))
+        failing |= bit(CHECK_HEAD);
+    return failing;
+}
+
+static unsigned failing_contents(const book_view *book)
+{
+    unsigned failing = 0;
+    if (book->sheets > MAX_SHEETS)
+        failing |= bit(CHECK_SHEET_NUMBER);
+    if (book->len < contents_end(book))
+        failing |= bit(CHECK_CONTENTS_LENGTH);
+    if (some_entry_broken(book))
+        failing |= bit(CHECK_ENTRY);
+    if (book->len != contents_end(book) + RECORD_LENGTH * book->records)
+        failing |= bit(CHECK_LENGTH);
+    return failing;
+}
+
+static uint8_t *allocate(size_t len)
+{
+    uint8_t *bytes = malloc(len);
+    if (bytes == NULL) {
+        fprintf(stderr, "reference: no memory for a book of %zu bytes\n", len);
+        exit(2);
+    }
+    return bytes;
+}
+
+/* The verdict on a book whose head is there; failing are the checks that
+ * were seen to fail before. */
+static verdict book_verdict(const call_input *in, unsigned failing, uint8_t *out)
+{
+    book_view book = view_book(in->input, in->input_len);
+    uint8_t *after = allocate(book.len);
+    verdict v = {failing | failing_contents(&book), book.records};
+    int encrypting = in->kind == CALL_ENCRYPT_BOOK;
+    int has_key = key_length_permitted(in->key_len);
+    reference_key key;
+
+    if (has_key)
+        reference_expand_key(&key, in->key, in->key_len);
+    memcpy(after, book.bytes, book.len);
+    if ((encrypting || has_key) && some_record_breaks_rule(&book, encrypting ? NULL : &key, after))
+        v.failing |= bit(CHECK_RECORD);
+    if (v.failing == 0) {
+        if (encrypting)
+            reference_encrypt_bodies(&key, book.bytes, book.len, after);
+        after[0] = encrypting ? SEALED_BOOK : CLEAR_BOOK;
+        memcpy(out, after, book.len);
+    }
+    free(after);
+    return v;
+}
+
+/* Accepted outputs of the other calls; each answers its count. */
+
+static uint64_t write_words(uint8_t *out, const uint32_t *words, size_t count)
+{
+    for (size_t i = 0; i < count; i++)
+        reference_store_word(out + 4 * i, words[i]);
+    return count;
+}
+
+static uint64_t accepted(const call_input *in, uint8_t *out)
+{
+    reference_key key;
+    size_t count;
+    if (in->kind == CALL_CONSTANTS) {
+        const uint32_t *words = reference_constants(in->key_len, &count);
+        return write_words(out, words, count);
+    }
+    reference_expand_key(&key, in->key, in->key_len);
+    switch (in->kind) {
+    case CALL_EXPAND_KEY:
+        write_words(out, key.whitening, 4);
+        return 4 + write_words(out + 16, key.round_keys, 2 * key.rounds);
+    case CALL_ENCRYPT_BLOCK:
+        reference_encrypt_block(&key, in->input, out);
+        return 1;
+    default:
+        reference_decrypt_block(&key, in->input, out);
+        return 1;
+    }
+}
+
+static uint64_t answer_of(unsigned failing, uint64_t count)
+{
+    for (int check = 1; check <= LAST_CHECK; check++)
+        if (failing & bit(check))
+            return (uint64_t)check << 32;
+    return count;
+}
+
+verdict reference_call(const call_input *in, uint8_t *out)
+{
+    verdict v = {failing_before_book(in), 0};
+    if (call_is_book(in->kind)) {
+        v.failing |= failing_head(in);
+        if (in->input_len >= HEAD_LENGTH)
+            v = book_verdict(in, v.failing, out);
+    } else if (v.failing == 0) {
+        v.answer = accepted(in, out);
+    }
+    v.answer = answer_of(v.failing, v.answer);
+    return v;
+}

@@ -1,0 +1,96 @@
+/*
+ * The rules of the calls and of the plan book, written a second time.
+ *
+ * The library stops at the first check that fails. Here every check is judged
+ * by itself, and the answer is the lowest number that fails: the two can agree
+ * only if the order of the checks is right too.
+ *
+ * A check that reads bytes is judged on those that are there:
+ *   1 to 5   always, in the calls that have them; 4 fails beside a wrong key
+ *            length if the output fits none of the permitted ones;
+ *   6        if a byte that is there shows it;
+ *   7, 8     if the head is there;
+ *   9        if some entry that lies whole in the book is broken;
+ *   10       if the head is there; R is summed over the entries that are there;
+ *   11       if the contents are whole; each record that lies whole in the book
+ *            is held against the entry whose count reaches it. When decrypting
+ *            it needs a key of a permitted length.
+ * Two checks fail together on an input if both fail in this sense. The test
+ * counts such a pair where the lower of the two is the answer.
+ */
+#ifndef REFERENCE_BOOK_H
+#define REFERENCE_BOOK_H
+
+#include "reference_clefia.h"
+
+enum {
+    CHECK_KEY = 1,
+    CHECK_WAY,
+    CHECK_BLOCK_LENGTH,
+    CHECK_OUTPUT_LENGTH,
+    CHECK_BOOK_LENGTH,
+    CHECK_HEAD,
+    CHECK_SHEET_NUMBER,
+    CHECK_CONTENTS_LENGTH,
+    CHECK_ENTRY,
+    CHECK_LENGTH,
+    CHECK_RECORD,
+    LAST_CHECK = CHECK_RECORD
+};
+
+enum {
+    HEAD_LENGTH = 4,
+    ENTRY_LENGTH = 24,
+    RECORD_LENGTH = REFERENCE_BLOCK,
+    CLEAR_BOOK = 1,
+    SEALED_BOOK = 2,
+    MAX_BOOK_LENGTH = 65532,
+    MAX_SHEETS = 64,
+    MAX_RECORDS = 1024,
+    MAX_REPLICATE = 4
+};
+
+typedef enum {
+    CALL_CONSTANTS,
+    CALL_EXPAND_KEY,
+    CALL_ENCRYPT_BLOCK,
+    CALL_DECRYPT_BLOCK,
+    CALL_ENCRYPT_BOOK,
+    CALL_DECRYPT_BOOK,
+    CALLS
+} call_kind;
+
+/* What is lent in one call. Constants have no key, way or input; key_len is
+ * then the number that is given in its place. */
+typedef struct {
+    call_kind kind;
+    const uint8_t *key;
+    uint64_t key_len;
+    uint64_t way;
+    const uint8_t *input;
+    size_t input_len;
+    size_t out_len;
+} call_input;
+
+typedef struct {
+    unsigned failing; /* bit c is set if check c fails */
+    uint64_t answer;
+} verdict;
+
+const char *call_name(call_kind kind);
+int call_is_book(call_kind kind);
+int call_is_block(call_kind kind);
+
+/* The bytes of output that a call asks for where its other lengths are right;
+ * 0 where the key length is not permitted and decides it. */
+size_t reference_output_length(const call_input *in);
+
+/* The verdict on a call. At entry out holds the out_len bytes that the lent
+ * output holds before the call, at exit those that it must hold afterwards. */
+verdict reference_call(const call_input *in, uint8_t *out);
+
+/* Encrypts the records of each sheet that are there, whatever else is wrong
+ * with the book, and copies all other bytes. */
+void reference_encrypt_bodies(const reference_key *key, const uint8_t *book, size_t len, uint8_t *out);
+
+#endif

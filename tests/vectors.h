@@ -1,0 +1,27 @@
+/*
+ * What section 2.5 of the CLEFIA specification prints: for each key length one
+ * plaintext with its ciphertext, and from 2.5.1 the whitening and round keys.
+ *
+ * One round key is misprinted and stands corrected: RK15 of the 192-bit key,
+ * printed 92cf98e, true 92cfc98e.
+ */
+#ifndef VECTORS_H
+#define VECTORS_H
+
+#include <stddef.h>
+#include <stdint.h>
+
+enum { KEY_LENGTHS = 3 };
+
+typedef struct {
+    size_t key_len;
+    uint8_t key[32];
+    uint8_t plaintext[16];
+    uint8_t ciphertext[16];
+    size_t words;
+    uint32_t expanded[56]; /* whitening keys, then round keys */
+} paper_vector;
+
+extern const paper_vector paper_vectors[KEY_LENGTHS];
+
+#endif
