@@ -1,6 +1,6 @@
 -- Laws of a whole call: its answer and its output, by each way out.
 use Prim.Native.Nat.{ℕ, _+_, _*_, _≤_}
-use mathlib.Core.Path.{_≡_, refl, sym, ap, _∙_}
+use mathlib.Core.Path.{_≡_, refl, sym, _∙_}
 use mathlib.Core.Bool.{true, false}
 use mathlib.Core.List.{List, [], _∷_, _++_}
 use native.Mathlib.Omega.{arith}
@@ -8,7 +8,7 @@ use borrow.Author.Tests.{eq-eqb, ne-eqb}
 use lib.ListN.{length, take, set}
 use Rattle.answer.specs.declared.Answer.{Answer}
 use Rattle.answer.specs.declared.Answer.the-variants.{Accepted, Refused}
-use Rattle.answer.specs.Answer.{answerOf, Given}
+use Rattle.answer.specs.Answer.{Given}
 use Rattle.planbook_spec.specs.Outcome.{Outcome, refused, accepted, after, judged}
 use Rattle.planbook_spec.specs.Checks.{outputCheck}
 use Rattle.planbook_spec.specs.Book.{sheetCount, contents, bodies, recordCount, formChecks, eachBody, sheetsHold, recordsCheck, recoded, bookChecks}

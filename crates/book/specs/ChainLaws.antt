@@ -1,20 +1,20 @@
 -- Laws of chains: what a step on words is on bytes, and stretches of an output that are filled one after the other.
 use Prim.Native.Nat.{ℕ, zero, suc, _+_, _-_, _*_, _^_, _≤_, _<_}
-use mathlib.Core.Path.{_≡_, refl, sym, ap, ap₂, _∙_, subst}
-use mathlib.Core.Bool.{Bool, true, false, _&&_}
+use mathlib.Core.Path.{_≡_, sym, ap, ap₂, _∙_}
+use mathlib.Core.Bool.{true, false, _&&_}
 use mathlib.Core.List.{List, [], _∷_, _++_, append-assoc, append-nil}
 use native.Mathlib.Omega.{arith}
 use borrow.Rule.Slice.PartMut.{putMid, same-len-mid, mid-len}
 use lib.Dec.{lit<}
-use lib.ListN.{length, take, drop, length-append, length-take, length-drop}
+use lib.ListN.{length, take, drop, length-append, length-drop}
 use lib.Seq.{length-take-le, take-all, take-at, drop-at}
-use Rattle.clefia_spec.specs.Words.{digitsOf, bytesOf, wordsOf, xors, Below}
+use Rattle.clefia_spec.specs.Words.{bytesOf, wordsOf, xors, Below}
 use Rattle.clefia_spec.specs.DigitLaws.{below-take, below-drop, below-xors, length-xors, length-numbersOf, length-digitsOf, below-numbersOf, below-digitsOf, numbersOf-xors, digitsOf-xors}
 use Rattle.clefia_spec.specs.KeyLaws.{Row}
 use Rattle.clefia_spec.specs.Block.{encryptWords, decryptWords, encryptUnder, decryptUnder}
 use Rattle.clefia_spec.specs.BlockLaws.{block-words, row-encryptWords, row-decryptWords}
-use Rattle.planbook_spec.specs.Book.{count, iv, pieces, recordHolds, allRecordsHold, sheetHolds, cbcEncrypt, cbcDecrypt, encryptBody, decryptBody}
-use Rattle.planbook_spec.specs.WalkLaws.{encrypt-next, decrypt-next, encrypt-done, decrypt-done}
+use Rattle.planbook_spec.specs.Book.{count, iv, pieces, recordHolds, allRecordsHold, sheetHolds, cbcEncrypt, cbcDecrypt, decryptBody}
+use Rattle.planbook_spec.specs.WalkLaws.{encrypt-next, decrypt-next}
 use Rattle.book.specs.Blocks.{block-at, words-at}
 
 -- ---- rows of four words and their bytes

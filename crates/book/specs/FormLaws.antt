@@ -13,7 +13,7 @@ use Rattle.planbook_spec.specs.OutcomeLaws.{AllPass, pass-head, pass-tail}
 use Rattle.planbook_spec.specs.Book.{sheetCount, contents, recordCount, formChecks}
 use Rattle.book.specs.Form.{headAnswer, contentsAnswer, formAnswer}
 use Rattle.book.specs.Judging.{stopped-first, passed-first, Went, went}
-use Rattle.book.specs.Tests.{first-passed, second-passed}
+use Rattle.book.specs.Tests.{second-passed}
 
 -- What passed checks say of a book's sizes.
 pub record HeadFits (book : List ℕ) : Type 0 where

@@ -1,36 +1,22 @@
-// The bodies of all sheets, one after the other. `mark` is the first byte of the book: 1 where it is clear, and 2 where it is encrypted.
+// The bodies of all sheets recoded, one after the other. `mark` is the first byte of the book: 1 where it is clear, and 2 where it is encrypted.
 ghost use mathlib.Core.Path.{_≡_};
 ghost use mathlib.Core.List.{_++_};
 ghost use Prim.Native.Nat.{_+_, _*_, _≤_};
 ghost use lib.ListN.{length, take};
-ghost use Rattle.planbook_spec.specs.Book.{count, sheetHolds, sheetCount, contents, bodies, sheetsHold, eachBody};
+ghost use Rattle.planbook_spec.specs.Book.{count, sheetCount, contents, bodies, eachBody};
 ghost use Rattle.ffunction.specs.Tables.{Lent};
-ghost use Rattle.book.specs.Bodies.{entryAt, clearBody, recodedBody};
+ghost use Rattle.book.specs.Bodies.{entryAt, recodedBody};
 ghost use Rattle.book.specs.FormLaws.{Formed};
+use super::decrypt;
+use super::encrypt;
 use super::entry;
-use super::record;
-use super::sheet;
 
-// Check 11 of one sheet.
-pub fn sheet_holds(
-    mark: u8,
-    way: u64,
-    words: &[[u32; 256]; 8],
-    bytes: &[[u8; 256]; 2],
-    w: &[u32],
-    entry: &[u8],
-    body: &[u8],
-) -> bool
-    requires { ⌜ Lent way (now words) (now bytes) ⌝ }
-    requires { ⌜ (4 ≤ length (now w)) × (length (now entry) ≡ 24) ⌝ }
-    requires { ⌜ length (now body) ≡ 16 * count (now entry) ⌝ }
-    ensures { λ r. ⌜ r ≡ sheetHolds (now (entry .entry)) (clearBody mark (now (w .entry)) (now (entry .entry)) (now (body .entry))) ⌝ }
+// Where the body ends that stands at `at`, and whose entry stands at `from`.
+pub fn body_end(book: &[u8], from: usize, at: usize) -> usize
+    requires { ⌜ (from + 24 ≤ length (now book)) × (at + 16 * count (entryAt (now book) from) ≤ length (now book)) ⌝ }
+    ensures { λ r. ⌜ r ≡ at + 16 * count (entryAt (now (book .entry)) from) ⌝ }
 {
-    if mark == 1 {
-        record::clear_sheet_holds(entry, body)
-    } else {
-        sheet::decrypted_sheet_holds(way, words, bytes, w, entry, body)
-    }
+    at + 16 * entry::half(book, from + 4)
 }
 
 // A clear sheet is encrypted, an encrypted one decrypted.
@@ -50,55 +36,10 @@ pub fn recode_sheet(
     ensures { λ r. ⌜ now (out .exit) ≡ recodedBody mark (now (w .entry)) (now (entry .entry)) (now (body .entry)) ⌝ }
 {
     if mark == 1 {
-        sheet::encrypt_sheet(way, words, bytes, w, entry, body, out);
+        encrypt::encrypt_sheet(way, words, bytes, w, entry, body, out);
     } else {
-        sheet::decrypt_sheet(way, words, bytes, w, entry, body, out);
+        decrypt::decrypt_sheet(way, words, bytes, w, entry, body, out);
     }
-}
-
-// Where the body ends that stands at `at`, and whose entry stands at `from`.
-fn body_end(book: &[u8], from: usize, at: usize) -> usize
-    requires { ⌜ (from + 24 ≤ length (now book)) × (at + 16 * count (entryAt (now book) from) ≤ length (now book)) ⌝ }
-    ensures { λ r. ⌜ r ≡ at + 16 * count (entryAt (now (book .entry)) from) ⌝ }
-{
-    at + 16 * entry::half(book, from + 4)
-}
-
-// Check 11 of a book whose form holds.
-pub fn records_hold(
-    mark: u8,
-    way: u64,
-    words: &[[u32; 256]; 8],
-    bytes: &[[u8; 256]; 2],
-    w: &[u32],
-    book: &[u8],
-) -> bool
-    requires { ⌜ Lent way (now words) (now bytes) ⌝ }
-    requires { ⌜ (4 ≤ length (now w)) × Formed (now book) ⌝ }
-    ensures { λ r. ⌜ r ≡ sheetsHold (clearBody mark (now (w .entry))) (contents (now (book .entry))) (bodies (now (book .entry))) ⌝ }
-{
-    let mut left = entry::half(book, 2);
-    let mut from = 4;
-    let mut at = 4 + 24 * left;
-    while 0 < left {
-        let next = from + 24;
-        let end = body_end(book, from, at);
-        if !sheet_holds(
-            mark,
-            way,
-            words,
-            bytes,
-            w,
-            &book[from..next],
-            &book[at..end],
-        ) {
-            return false;
-        }
-        from = next;
-        at = end;
-        left -= 1;
-    }
-    true
 }
 
 // Each body recoded where it stood, and the front of the output left as it was.

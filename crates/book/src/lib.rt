@@ -2,11 +2,13 @@
 // (Document 01's terms are sealing and opening a book; a clear book has the first byte 1, and an encrypted one 2.)
 pub mod bodies;
 pub mod chain;
+pub mod decrypt;
+pub mod encrypt;
 pub mod entry;
 pub mod form;
 pub mod front;
 pub mod record;
-pub mod sheet;
+pub mod records;
 
 ghost use mathlib.Core.Path.{_≡_};
 ghost use mathlib.Core.List.{[]};
@@ -61,7 +63,7 @@ fn recode_book(
     let Answer::Accepted(records) = form else {
         return form;
     };
-    if !bodies::records_hold(mark, way, words, bytes, w, book) {
+    if !records::records_hold(mark, way, words, bytes, w, book) {
         return Answer::Refused(11);
     }
     write_book(mark, to, way, words, bytes, w, book, out);

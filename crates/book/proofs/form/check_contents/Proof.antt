@@ -1,10 +1,9 @@
 -- `book::form::check_contents` meets its contract. The invariant says what the walk has found; `left` entries are to come.
-use Prim.Native.Nat.{ℕ, _+_, _*_, _≤_, _<_}
+use Prim.Native.Nat.{ℕ, _+_, _*_, _≤_}
 use mathlib.Core.Path.{_≡_, refl, sym, _∙_, ap}
 use mathlib.Core.List.{List}
-use native.Mathlib.Omega.{arith}
 use borrow.Author.Needs.{needs}
-use lib.ListN.{length, take, drop}
+use lib.ListN.{take, drop}
 use Rattle.planbook_spec.specs.Book.{sheetCount}
 use Rattle.book.specs.declared.entry.Entry.the-variants.{Good, Broken}
 use Rattle.book.specs.Entry.{entryOf}

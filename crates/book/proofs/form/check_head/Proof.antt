@@ -1,14 +1,14 @@
 -- `book::form::check_head` meets its contract: checks 5 to 8, each passed before the next.
-use Prim.Native.Nat.{ℕ, _+_, _*_, _≤_}
+use Prim.Native.Nat.{ℕ, _≤_}
 use mathlib.Core.Path.{_≡_, sym, _∙_}
-use mathlib.Core.Bool.{true, false, _&&_}
+use mathlib.Core.Bool.{true, _&&_}
 use mathlib.Core.List.{List}
 use native.Mathlib.Omega.{arith}
 use borrow.Author.Tests.{le-leb, lt-leb, leb-true, not-true, not-false}
 use lib.Dec.{eqb, leb}
 use lib.ListN.{length, getD}
 use Rattle.planbook_spec.specs.Outcome.{judged}
-use Rattle.planbook_spec.specs.Book.{sheetCount, formChecks}
+use Rattle.planbook_spec.specs.Book.{formChecks}
 use Rattle.book.specs.Tests.{first-passed}
 use borrow.Author.Needs.{needs}
 use Rattle.book.proofs.form.check_head.Statement.{statement}

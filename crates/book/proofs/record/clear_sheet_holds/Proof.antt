@@ -5,7 +5,7 @@ use borrow.Author.Tests.{not-true, not-false}
 use Rattle.clefia_spec.specs.Words.{bytesOf, Below}
 use Rattle.clefia_spec.specs.DigitLaws.{below-all, below-drop}
 use Rattle.book.specs.declared.entry.Sheet.{Sheet}
-use Prim.Native.Nat.{ℕ, _+_, _*_, _^_, _≤_, _<_}
+use Prim.Native.Nat.{ℕ, _+_, _*_, _≤_}
 use mathlib.Core.Path.{_≡_, refl, sym, ap, _∙_}
 use borrow.Author.Needs.{needs}
 use lib.ListN.{length, take, drop, length-drop}

@@ -1,8 +1,8 @@
 -- `book::record::record_holds` meets its contract.
 use mir.Syntax.{w32}
 use Prim.Native.Nat.{ℕ, _^_, _<_}
-use mathlib.Core.Path.{_≡_, _∙_}
-use lib.ListN.{length, getD}
+use mathlib.Core.Path.{_∙_}
+use lib.ListN.{getD}
 use Rattle.book.specs.Blocks.{record-row}
 use borrow.Author.Needs.{needs, elem-fits}
 use Rattle.book.proofs.record.record_holds.Statement.{statement}

@@ -1,4 +1,4 @@
--- `book::bodies::records_hold` meets its contract: `left` sheets are to come, the next entry at `from`, its body at `at`.
+-- `book::records::records_hold` meets its contract: `left` sheets are to come, the next entry at `from`, its body at `at`.
 use Prim.Native.Nat.{ℕ, _*_}
 use mathlib.Core.Path.{_≡_, refl, sym, _∙_}
 use mathlib.Core.List.{List}
@@ -10,8 +10,8 @@ use Rattle.planbook_spec.specs.Book.{count, sheetHolds}
 use Rattle.book.specs.Bodies.{entryAt, clearBody}
 use Rattle.book.specs.Walks.{part, part-length}
 use Rattle.book.specs.BodiesLaws.{Next, next, Tested, tested-start, tested-broken, tested-step, tested-end}
-use Rattle.book.proofs.bodies.records_hold.Statement.{statement}
-use Rattle.book.proofs.bodies.records_hold.Tie as tie
+use Rattle.book.proofs.records.records_hold.Statement.{statement}
+use Rattle.book.proofs.records.records_hold.Tie as tie
 
 abbrev Inv-loop : tie.InvT-loop
 Inv-loop mark way words bytes w book left₀ from₀ at₀ left from at = Tested (clearBody mark w) book from at left

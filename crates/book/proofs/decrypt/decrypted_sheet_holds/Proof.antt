@@ -1,10 +1,10 @@
--- `book::sheet::decrypted_sheet_holds` meets its contract: `left` blocks are to come, the first of them at `at`.
-use Prim.Native.Nat.{ℕ, _+_, _*_, _^_, _≤_, _<_}
-use mathlib.Core.Path.{_≡_, refl, sym, ap, _∙_}
+-- `book::decrypt::decrypted_sheet_holds` meets its contract: `left` blocks are to come, the first of them at `at`.
+use Prim.Native.Nat.{ℕ, _^_}
+use mathlib.Core.Path.{_≡_, sym, ap, _∙_}
 use mathlib.Core.List.{List}
 use borrow.Author.Needs.{needs}
 use borrow.Author.Tests.{not-true, not-false}
-use lib.ListN.{length, drop}
+use lib.ListN.{drop}
 use Rattle.clefia_spec.specs.Words.{bytesOf, wordsOf, xors, Below}
 use Rattle.clefia_spec.specs.DigitLaws.{below-all}
 use Rattle.clefia_spec.specs.Block.{decryptWords}
@@ -12,8 +12,8 @@ use Rattle.planbook_spec.specs.Book.{trial, recordHolds}
 use Rattle.book.specs.declared.chain.Step.{Step}
 use Rattle.book.specs.declared.entry.Sheet.{Sheet}
 use Rattle.book.specs.ChainLaws.{Opened, opened-start, opened-broken, opened-step, opened-end}
-use Rattle.book.proofs.sheet.decrypted_sheet_holds.Statement.{statement}
-use Rattle.book.proofs.sheet.decrypted_sheet_holds.Tie as tie
+use Rattle.book.proofs.decrypt.decrypted_sheet_holds.Statement.{statement}
+use Rattle.book.proofs.decrypt.decrypted_sheet_holds.Tie as tie
 
 abbrev Inv-loop : tie.InvT-loop
 Inv-loop way words bytes w entry body sheet chain₀ left₀ at₀ chain left at = (sheet .trial ≡ trial entry) × Opened w entry body at left (chain .previous)

@@ -1,9 +1,8 @@
--- `book::bodies::sheet_holds` meets its contract.
-use mathlib.Core.Path.{_∙_}
+-- `book::records::sheet_holds` meets its contract.
 use borrow.Author.Tests.{eq-eqb, ne-eqb}
 use borrow.Author.Needs.{needs}
-use Rattle.book.proofs.bodies.sheet_holds.Statement.{statement}
-use Rattle.book.proofs.bodies.sheet_holds.Tie as tie
+use Rattle.book.proofs.records.sheet_holds.Statement.{statement}
+use Rattle.book.proofs.records.sheet_holds.Tie as tie
 
 clear-sheet-holds-requires : tie.Need-clear-sheet-holds-requires
 clear-sheet-holds-requires c κs = search needs
