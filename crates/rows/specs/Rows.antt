@@ -6,7 +6,7 @@ use native.Mathlib.Nat.{add-assoc, mul-add}
 use native.Mathlib.Numerals.{add-one, towards-suc}
 use native.Mathlib.Omega.{arith}
 use lib.ListN.{length, getD, set, take, drop, length-append, length-take, length-drop}
-use lib.Seq.{sets, sets-eq, take-all, take-at, drop-cons, drop-drop, length-take-le}
+use lib.Seq.{sets-eq, take-all, take-at, drop-cons, drop-drop, length-take-le}
 use Rattle.clefia_spec.specs.Words.{fromDigits, toDigits, digitsOf, numbersOf, bytesOf, wordsOf, fourAt}
 
 -- The first n elements of a row, each written out.

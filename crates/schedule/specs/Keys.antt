@@ -1,10 +1,10 @@
 -- The expanded key of a key in bytes, for each permitted length, by the words that the code reads from it.
-use Prim.Native.Nat.{ℕ, _/_, _≤_}
+use Prim.Native.Nat.{ℕ, _≤_}
 use mathlib.Core.Path.{_≡_, refl}
 use mathlib.Core.List.{List, [], _∷_}
 use native.Mathlib.Omega.{arith}
 use lib.ListN.{length, drop}
-use Rattle.clefia_spec.specs.Words.{complement, wordsOf, fourAt, KeyLength, sixteen, twentyFour, thirtyTwo}
+use Rattle.clefia_spec.specs.Words.{complement, wordsOf, KeyLength, sixteen, twentyFour, thirtyTwo}
 use Rattle.clefia_spec.specs.Constants.{constants}
 use Rattle.clefia_spec.specs.KeySchedule.{expandShort, expandLong, extendKey, expandKeyWords, expandKey}
 use Rattle.rows.specs.Rows.{wordAt, getD-words, fourAt-words}

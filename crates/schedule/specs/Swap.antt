@@ -1,12 +1,11 @@
 -- DoubleSwap, whose definition orders 128 bits, as four sums of parts of words.
-use Prim.Native.Nat.{ℕ, zero, suc, _+_, _-_, _*_, _/_, _%_, _^_, _≤_, _<_}
-use mathlib.Core.Path.{_≡_, refl, sym, _∙_, ap, ap₂}
+use Prim.Native.Nat.{ℕ, zero, suc, _+_, _-_, _*_, _/_, _%_, _^_, _<_}
+use mathlib.Core.Path.{_≡_, sym, _∙_, ap, ap₂}
 use mathlib.Core.List.{List, [], _∷_, _++_}
 use native.Mathlib.Nat.{zero-add, suc-add, zero-mul, add-mul, mul-assoc, add-assoc, add-comm, div-div-eq-div-mul}
-use native.Mathlib.Omega.{arith}
 use lib.Dec.{lit<}
 use lib.Pow.{pow-add}
-use lib.ListN.{length, take, drop, length-append}
+use lib.ListN.{length, length-append}
 use Rattle.clefia_spec.specs.Words.{fromDigits, toDigits, digitsOf, numbersOf}
 use Rattle.clefia_spec.specs.DigitLaws.{length-toDigits, from-to}
 use Rattle.clefia_spec.specs.KeySchedule.{bitRange, doubleSwapBits, doubleSwap}

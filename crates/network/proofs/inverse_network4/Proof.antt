@@ -1,7 +1,6 @@
 -- `network::inverse_network4` meets its contract.
 use Prim.Native.Nat.{_+_, _-_, _*_, _≤_}
 use mathlib.Core.Path.{_≡_, refl}
-use lib.ListN.{length}
 use borrow.Author.Needs.{needs}
 use Rattle.clefia_spec.specs.FFunction.{f0, f1}
 use Rattle.clefia_spec.specs.Network.{undoRounds, inverseNetwork}
