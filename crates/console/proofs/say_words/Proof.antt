@@ -1,0 +1,56 @@
+-- `console::say_words` ends and reads only what is there: `at` is at most the length, and what is left of it falls with each word.
+use Prim.Native.Nat.{_≤_, _-_}
+use native.Mathlib.Omega.{arith}
+use lib.ListN.{length}
+use borrow.Author.Needs.{needs}
+use Rattle.console.proofs.say_words.Statement.{statement}
+use Rattle.console.proofs.say_words.Tie as tie
+
+abbrev Inv-loop : tie.InvT-loop
+Inv-loop bytes at₀ at = at ≤ length bytes
+
+abbrev μ-loop : tie.MeasureT-loop
+μ-loop bytes at₀ at = length bytes - at
+
+loop-holds : tie.Need-loop-holds Inv-loop μ-loop
+loop-holds c = omega arith
+
+sub-loop : tie.Need-sub-loop Inv-loop μ-loop
+sub-loop c = omega arith
+
+say-word-requires : tie.Need-say-word-requires Inv-loop μ-loop
+say-word-requires c κs = omega arith
+
+add-at : tie.Need-add-at Inv-loop μ-loop
+add-at c = omega arith
+
+sub-left : tie.Need-sub-left Inv-loop μ-loop
+sub-left c = omega arith
+
+say-gap-requires : tie.Need-say-gap-requires Inv-loop μ-loop
+say-gap-requires c κs = search needs
+
+loop-less : tie.Need-loop-less Inv-loop μ-loop
+loop-less c = omega arith
+
+loop-again : tie.Need-loop-again Inv-loop μ-loop
+loop-again c = omega arith
+
+returns : tie.Need-returns Inv-loop μ-loop
+returns c = search needs
+
+pub say-words-spec : {M : Type 1} → statement M
+say-words-spec =
+    tie.close
+    (tie.spec
+    Inv-loop
+    μ-loop
+    loop-holds
+    sub-loop
+    say-word-requires
+    add-at
+    sub-left
+    say-gap-requires
+    loop-less
+    loop-again
+    returns)
