@@ -13,6 +13,7 @@ use Rattle.clefia_spec.specs.Constants.{constants}
 use Rattle.clefia_spec.specs.KeyLaws.{length-constants}
 use Rattle.clefia_spec.specs.KeySchedule.{expandKey}
 use Rattle.clefia_spec.specs.Block.{encryptUnder, decryptUnder, encrypt, decrypt}
+use Rattle.ffunction.specs.Tables.{wordTables, byteTables, Lent}
 use Rattle.answer.specs.Answer.{answerOf, Given}
 use Rattle.answer.specs.declared.Answer.{Answer}
 use Rattle.answer.specs.declared.Answer.the-variants.{Accepted, Refused}
@@ -160,3 +161,11 @@ pub encrypted-book : {d : Bool} (ws key book : List ℕ) {out exit : List ℕ} {
 unfolding encrypt bookUnder
 encrypted-book ws key book {out} {exit} {r} e h g =
     rw e (subst (λ (x : List ℕ). Given (encryptBookBy [] (encryptUnder x) book out) out r exit) h g)
+
+-- ---- the tables that a way reads
+
+pub lent-words : {way : ℕ} {ws bs : List (List ℕ)} → way ≡ 2 → ws ≡ wordTables → Lent way ws bs
+lent-words {way} e h = record { words = λ _. h; bytes = λ (f : way ≡ 1). let z : ⊥ = omega (arith, e, f) in absurd z }
+
+pub lent-bytes : {way : ℕ} {ws bs : List (List ℕ)} → way ≢ 2 → bs ≡ byteTables → Lent way ws bs
+lent-bytes n h = record { words = λ e. absurd (n e); bytes = λ _. h }

@@ -7,7 +7,7 @@ ghost use lib.ListN.{length};
 ghost use Prim.Native.Nat.{_*_, _≤_};
 ghost use Rattle.clefia_spec.specs.Words.{bytesOf, byKeyLength, KeyLength};
 ghost use Rattle.clefia_spec.specs.KeySchedule.{expandKey};
-ghost use Rattle.ffunction.specs.Tables.{wordTables, byteTables, Lent};
+ghost use Rattle.ffunction.specs.Tables.{Lent};
 ghost use Rattle.planbook_spec.specs.Outcome.{accepted, judged};
 ghost use Rattle.planbook_spec.specs.Checks.{outputCheck, expandedCount, constantsCall, expandKeyCall, encryptBlockCall, decryptBlockCall};
 ghost use Rattle.answer.specs.Answer.{Given};
@@ -55,26 +55,6 @@ pub fn constants(size: u64, out: &mut [u8]) -> Answer
     Answer::Refused(1)
 }
 
-// The word tables where the way reads them, else words that nobody reads.
-fn words_for(way: u64) -> [[u32; 256]; 8]
-    ensures { λ r. ⌜ (way ≡ 2 → r ≡ wordTables) ⌝ }
-{
-    if way == 2 {
-        return ffunction::tables::word_tables();
-    }
-    [[0u32; 256]; 8]
-}
-
-// The byte tables where the way reads them.
-fn bytes_for(way: u64) -> [[u8; 256]; 2]
-    ensures { λ r. ⌜ (way ≡ 1 → r ≡ byteTables) ⌝ }
-{
-    if way == 1 {
-        return sbox::tables::byte_tables();
-    }
-    [[0u8; 256]; 2]
-}
-
 // The key expanded into w; then check 4, and the words as bytes.
 fn expand_into(
     way: u64,
@@ -93,6 +73,32 @@ fn expand_into(
     write_words(w, out)
 }
 
+// The same with the tables that the way reads, each fetched where it is lent: a table costs a copy. The others are zeros, which nobody reads.
+fn expand_by(way: u64, key: &[u8], w: &mut [u32], out: &mut [u8]) -> Answer
+    requires { ⌜ KeyLength (length (now key)) ⌝ }
+    requires { ⌜ length (now w) ≡ byKeyLength (length (now key)) 40 48 56 ⌝ }
+    ensures { λ r. ⌜ Given (judged (outputCheck (4 * expandedCount (length (now (key .entry)))) (now (out .entry)) ∷ []) (accepted (expandedCount (length (now (key .entry)))) (bytesOf (expandKey (now (key .entry)))))) (now (out .entry)) r (now (out .exit)) ⌝ }
+{
+    if way == 2 {
+        return expand_into(
+            way,
+            &ffunction::tables::word_tables(),
+            &[[0u8; 256]; 2],
+            key,
+            w,
+            out,
+        );
+    }
+    expand_into(
+        way,
+        &[[0u32; 256]; 8],
+        &sbox::tables::byte_tables(),
+        key,
+        w,
+        out,
+    )
+}
+
 pub fn expand_key(key: &[u8], way: u64, out: &mut [u8]) -> Answer
     ensures { λ r. ⌜ Given (expandKeyCall (now (key .entry)) way (now (out .entry))) (now (out .entry)) r (now (out .exit)) ⌝ }
 {
@@ -103,10 +109,8 @@ pub fn expand_key(key: &[u8], way: u64, out: &mut [u8]) -> Answer
         return Answer::Refused(2);
     }
     let n = 24 + key.len();
-    let words = words_for(way);
-    let bytes = bytes_for(way);
     let mut w = [0u32; 56];
-    expand_into(way, &words, &bytes, key, &mut w[..n], out)
+    expand_by(way, key, &mut w[..n], out)
 }
 
 // The key expanded into w, and one block decrypted or encrypted.
@@ -134,6 +138,38 @@ fn block_into(
     block::encrypt_block(way, words, bytes, w, block, out);
 }
 
+// The same with the tables that the way reads.
+fn block_by(decrypting: bool, way: u64, key: &[u8], w: &mut [u32], block: &[u8], out: &mut [u8])
+    requires { ⌜ KeyLength (length (now key)) ⌝ }
+    requires { ⌜ length (now w) ≡ byKeyLength (length (now key)) 40 48 56 ⌝ }
+    requires { ⌜ (length (now block) ≡ 16) × (length (now out) ≡ 16) ⌝ }
+    ensures { λ r. ⌜ now (out .exit) ≡ codedBlock decrypting (now (key .entry)) (now (block .entry)) ⌝ }
+{
+    if way == 2 {
+        block_into(
+            decrypting,
+            way,
+            &ffunction::tables::word_tables(),
+            &[[0u8; 256]; 2],
+            key,
+            w,
+            block,
+            out,
+        );
+        return;
+    }
+    block_into(
+        decrypting,
+        way,
+        &[[0u32; 256]; 8],
+        &sbox::tables::byte_tables(),
+        key,
+        w,
+        block,
+        out,
+    );
+}
+
 // Both block calls, whose checks are the same.
 fn block_call(decrypting: bool, key: &[u8], way: u64, block: &[u8], out: &mut [u8]) -> Answer
     ensures { λ r. ⌜ Given (blockCall decrypting (now (key .entry)) way (now (block .entry)) (now (out .entry))) (now (out .entry)) r (now (out .exit)) ⌝ }
@@ -151,19 +187,8 @@ fn block_call(decrypting: bool, key: &[u8], way: u64, block: &[u8], out: &mut [u
         return Answer::Refused(4);
     }
     let n = 24 + key.len();
-    let words = words_for(way);
-    let bytes = bytes_for(way);
     let mut w = [0u32; 56];
-    block_into(
-        decrypting,
-        way,
-        &words,
-        &bytes,
-        key,
-        &mut w[..n],
-        block,
-        out,
-    );
+    block_by(decrypting, way, key, &mut w[..n], block, out);
     Answer::Accepted(1)
 }
 
@@ -202,6 +227,43 @@ fn book_into(
     book::encrypt_book(way, words, bytes, w, book, out)
 }
 
+// The same with the tables that the way reads.
+fn book_by(
+    decrypting: bool,
+    way: u64,
+    key: &[u8],
+    w: &mut [u32],
+    book: &[u8],
+    out: &mut [u8],
+) -> Answer
+    requires { ⌜ KeyLength (length (now key)) ⌝ }
+    requires { ⌜ length (now w) ≡ byKeyLength (length (now key)) 40 48 56 ⌝ }
+    ensures { λ r. ⌜ Given (bookUnder decrypting (now (key .entry)) (now (book .entry)) (now (out .entry))) (now (out .entry)) r (now (out .exit)) ⌝ }
+{
+    if way == 2 {
+        return book_into(
+            decrypting,
+            way,
+            &ffunction::tables::word_tables(),
+            &[[0u8; 256]; 2],
+            key,
+            w,
+            book,
+            out,
+        );
+    }
+    book_into(
+        decrypting,
+        way,
+        &[[0u32; 256]; 8],
+        &sbox::tables::byte_tables(),
+        key,
+        w,
+        book,
+        out,
+    )
+}
+
 // Both book calls, whose checks 1 and 2 are the same.
 fn book_call(decrypting: bool, key: &[u8], way: u64, book: &[u8], out: &mut [u8]) -> Answer
     ensures { λ r. ⌜ Given (bookCall decrypting (now (key .entry)) way (now (book .entry)) (now (out .entry))) (now (out .entry)) r (now (out .exit)) ⌝ }
@@ -213,10 +275,8 @@ fn book_call(decrypting: bool, key: &[u8], way: u64, book: &[u8], out: &mut [u8]
         return Answer::Refused(2);
     }
     let n = 24 + key.len();
-    let words = words_for(way);
-    let bytes = bytes_for(way);
     let mut w = [0u32; 56];
-    book_into(decrypting, way, &words, &bytes, key, &mut w[..n], book, out)
+    book_by(decrypting, way, key, &mut w[..n], book, out)
 }
 
 pub fn encrypt_book(key: &[u8], way: u64, book: &[u8], out: &mut [u8]) -> Answer

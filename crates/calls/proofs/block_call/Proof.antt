@@ -54,25 +54,17 @@ returns-4 c =
 add-n : tie.Need-add-n
 add-n c = search needs
 
-words-for-requires : tie.Need-words-for-requires
-words-for-requires c κs = search needs
-
-bytes-for-requires : tie.Need-bytes-for-requires
-bytes-for-requires c κs = search needs
-
 array-borrow-prefix-w : tie.Need-array-borrow-prefix-w
-array-borrow-prefix-w c = expanded-fits (fits (c .before .before .before .before .before .before))
+array-borrow-prefix-w c = expanded-fits (fits (c .before .before))
 
-slice-aggregate-block-into : tie.Need-slice-aggregate-block-into
-slice-aggregate-block-into c = prefix _ (fits (c .before .before .before .before .before .before .before)) refl
+slice-aggregate-block-by : tie.Need-slice-aggregate-block-by
+slice-aggregate-block-by c = prefix _ (fits (c .before .before .before)) refl
 
-block-into-requires : tie.Need-block-into-requires
-block-into-requires c κs =
-    let f : tie.Else4 = c .before .before .before .before .before .before in
-    let k = fits (f .before .before) in (
-      record { words = c .before .before .before .before .before .words-for .ensures; bytes = c .before .before .before .before .bytes-for .ensures },
-      (k, (expanded-prefix _ k refl, (f .before .if3 .left, f .if4 .left))),
-    )
+block-by-requires : tie.Need-block-by-requires
+block-by-requires c κs =
+    let f : tie.Else4 = c .before .before in
+    let k = fits (f .before .before) in
+    (k, (expanded-prefix _ k refl, (f .before .if3 .left, f .if4 .left)))
 
 same-length : tie.Need-same-length
 same-length c = search needs
@@ -80,7 +72,7 @@ same-length c = search needs
 returns-5 : tie.Need-returns-5
 unfolding blockCall blockChecks keyCheck wayCheck blockCheck outputCheck
 returns-5 c =
-    let f : tie.Else4 = c .before .before .before .before .before .before .before .before .before .before in
+    let f : tie.Else4 = c .before .before .before .before .before .before in
     let t : tie.Else2 = f .before .before in
     given-accepted _ _
     (judged-true (passed (t .before .before .before .one-of .ensures) (t .before .before .if1 .left)) 1 _ _
@@ -88,7 +80,7 @@ returns-5 c =
     ∙ judged-true (eq-eqb _ _ (f .before .if3 .left)) 3 _ _
     ∙ judged-true (eq-eqb _ _ (f .if4 .left)) 4 _ _
     ∙ no-checks _)
-    (c .before .before .before .block-into .ensures)
+    (c .before .before .before .block-by .ensures)
 
 pub block-call-spec : {M : Type 1} → statement M
 block-call-spec =
@@ -101,10 +93,8 @@ block-call-spec =
     returns-3
     returns-4
     add-n
-    words-for-requires
-    bytes-for-requires
     array-borrow-prefix-w
-    slice-aggregate-block-into
-    block-into-requires
+    slice-aggregate-block-by
+    block-by-requires
     same-length
     returns-5)
