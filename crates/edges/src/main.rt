@@ -1,0 +1,59 @@
+// Every edge of the exported calls by running: what each check refuses and what it lets through, and which of two failing checks answers.
+//
+// The file stdout is written from the rules in docs/FORMAT.md. Each line says the call, the case, the way, and what came of it; before each
+// call every byte of the lent output is given one value, so that a refused call that wrote would show.
+mod books;
+mod forms;
+mod keys;
+mod pairs;
+mod records;
+mod report;
+
+// The cases of one way, with a key of 16 bytes.
+fn by_way(key: &[u8], way: u64) {
+    keys::key_lengths(way);
+    keys::blocks(key, way);
+    forms::outputs(key, way);
+    forms::lengths(key, way);
+    forms::heads(key, way);
+    forms::sheets(key, way);
+    forms::entries(key, way);
+    forms::sizes(key, way);
+    records::fields(key, way);
+    records::last_sheet(key, way);
+    records::accepted(key, way);
+    pairs::lengths(key, way);
+    pairs::forms(key, way);
+    pairs::records(key, way);
+}
+
+// Books under one key by every way.
+fn by_key(key: &[u8]) {
+    console::say(b"key of ");
+    console::say_number(key.len() as u64);
+    console::say(b" bytes\n");
+    records::written(key, 1);
+    records::written(key, 2);
+    records::written(key, 3);
+    records::largest(key, 1, 2);
+    records::largest(key, 2, 3);
+    records::largest(key, 3, 1);
+}
+
+fn main() {
+    let long: &[u8] =
+        b"\xff\xee\xdd\xcc\xbb\xaa\x99\x88\x77\x66\x55\x44\x33\x22\x11\x00\xf0\xe0\xd0\xc0\xb0\xa0\x90\x80\x70\x60\x50\x40\x30\x20\x10\x00";
+    keys::constants_keys();
+    keys::constants_outputs();
+    keys::ways(&long[..16]);
+    pairs::keys_and_ways(&long[..16], &long[..15]);
+    keys::expanded_keys(&long[..16], &long[..24], long, 1);
+    keys::expanded_keys(&long[..16], &long[..24], long, 2);
+    keys::expanded_keys(&long[..16], &long[..24], long, 3);
+    by_way(&long[..16], 1);
+    by_way(&long[..16], 2);
+    by_way(&long[..16], 3);
+    by_key(&long[..16]);
+    by_key(&long[..24]);
+    by_key(long);
+}
