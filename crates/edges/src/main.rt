@@ -1,7 +1,8 @@
 // Every edge of the exported calls by running: what each check refuses and what it lets through, and which of two failing checks answers.
 //
-// The file stdout is written from the rules in docs/FORMAT.md. Each line says the call, the case, the way, and what came of it; before each
-// call every byte of the lent output is given one value, so that a refused call that wrote would show.
+// Each line says the call, the case, the way, and what came of it. Before each call every byte of the lent output is given one value, so that
+// a refused call that wrote would show. The file stdout comes from the rules in docs/FORMAT.md and never from this program: a script of its own
+// judged each case by them, and the few encrypted bytes are those of another CLEFIA.
 mod books;
 mod forms;
 mod keys;
