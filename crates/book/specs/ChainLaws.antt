@@ -147,6 +147,12 @@ module _ {w entry body out p : List ℕ} {at left : ℕ} (words : Below (2 ^ 32)
       (row-at (drop at body) (below-drop at bytes))
       (decrypt-turn at words (c .row) bytes f h)
 
+-- ---- the block that is read ahead: it begins at `end`, or is the first again where n, the number of those that follow, is 0
+
+pub ahead-fits : (n : ℕ) {end size from : ℕ} → end + 16 * n ≡ size → 16 ≤ size → (end < size → from ≡ end) → (size ≤ end → from ≡ 0) → from + 16 ≤ size
+ahead-fits zero {end} {size} {from} e h f g = let z : from ≡ 0 = g (omega arith) in omega arith
+ahead-fits (suc n) {end} {size} {from} e h f g = let z : from ≡ end = f (omega arith) in omega arith
+
 -- ---- a rule of the records, looked at as the chain is undone
 
 pub record Opened (w entry body : List ℕ) (at left : ℕ) (p : List ℕ) : Type 0 where

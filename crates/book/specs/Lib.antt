@@ -1,4 +1,5 @@
 pub mod Entry
+pub mod Exchange
 pub mod Form
 pub mod Tests
 pub mod Walks

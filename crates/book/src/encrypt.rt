@@ -5,6 +5,7 @@ ghost use lib.ListN.{length};
 ghost use Rattle.clefia_spec.specs.Block.{encryptUnder};
 ghost use Rattle.planbook_spec.specs.Book.{count, encryptBody};
 ghost use Rattle.ffunction.specs.Tables.{Lent};
+use super::blocks;
 use super::chain::Chain;
 use super::entry;
 
@@ -22,14 +23,20 @@ pub fn encrypt_sheet(
     requires { ⌜ (length (now body) ≡ 16 * count (now entry)) × (length (now out) ≡ 16 * count (now entry)) ⌝ }
     ensures { λ r. ⌜ now (out .exit) ≡ encryptBody (encryptUnder (now (w .entry))) (now (entry .entry)) (now (body .entry)) ⌝ }
 {
-    let mut chain = Chain::new(entry);
     let mut left = entry::half(entry, 4);
+    if left == 0 {
+        return;
+    }
+    let mut chain = Chain::new(entry);
+    let mut block = rows::load(body, 0);
     let mut at = 0;
     while 0 < left {
         let end = at + 16;
-        let step = chain.encrypt(way, words, bytes, w, rows::load(body, at));
-        let block = step.block;
-        rows::store(&mut out[at..end], block);
+        let step = chain.encrypt(way, words, bytes, w, block);
+        let written = step.block;
+        let from = blocks::following(end, body.len());
+        let read = blocks::exchange(&mut out[at..end], written, body, from);
+        block = read;
         let next = step.next;
         chain = next;
         left -= 1;
