@@ -4,11 +4,12 @@ use native.Mathlib.Nat.{div-one, pow-suc, suc-mul, le-of-suc-le-suc, not-suc-le-
 use native.Mathlib.Omega.{arith}
 use mathlib.Core.Path.{_≡_, refl, ap, sym, _∙_, subst}
 use mathlib.Core.List.{List, [], _∷_}
-use lib.Bits.{xor-block}
+use lib.Bits.{xor-block, xor-comm}
 use lib.Dec.{lit<}
 use lib.Pow.{pow-add}
 use lib.ListN.{length, getD}
 use Rattle.clefia_spec.specs.Words.{_⊕_, fromDigits, toDigits, xors, Below, none, more}
+use Rattle.clefia_spec.specs.XorLaws.{xor-assoc}
 use Rattle.clefia_spec.specs.DigitLaws.{fromDigits-lt, below-xors, length-xors}
 use Rattle.clefia_spec.specs.Field.{product}
 use Rattle.clefia_spec.specs.FieldLaws.{product-lt}
@@ -80,6 +81,17 @@ unfolding mix column toDigits substitute
 mix-columns zero z h = rw (div-one z) (matrixTimes-columns (matrix 0) _ _ _ _ (box-lt 0 _) (box-lt 1 _) (box-lt 0 _) (box-lt 1 _))
 mix-columns (suc zero) z h = rw (div-one z) (matrixTimes-columns (matrix 1) _ _ _ _ (box-lt 1 _) (box-lt 0 _) (box-lt 1 _) (box-lt 0 _))
 mix-columns (suc (suc f)) z h = absurd (not-suc-le-zero (le-of-suc-le-suc (le-of-suc-le-suc h)))
+
+-- The same sum in another order.
+last-first : (a b c d : ℕ) → d ⊕ c ⊕ a ⊕ b ≡ a ⊕ b ⊕ c ⊕ d
+last-first a b c d =
+    xor-assoc (d ⊕ c) a b ∙ xor-comm (d ⊕ c) (a ⊕ b) ∙ ap (λ (x : ℕ). a ⊕ b ⊕ x) (xor-comm d c) ∙ sym (xor-assoc (a ⊕ b) c d)
+
+pub columns-mix : (f z : ℕ) → f < 2
+    → column f 3 (z % 256) ⊕ column f 2 (z / 256 % 256) ⊕ column f 0 (z / 16777216 % 256) ⊕ column f 1 (z / 65536 % 256) ≡ mix f z
+columns-mix f z h =
+    last-first (column f 0 (z / 16777216 % 256)) (column f 1 (z / 65536 % 256)) (column f 2 (z / 256 % 256)) (column f 3 (z % 256))
+    ∙ sym (mix-columns f z h)
 
 -- What stands in a word table.
 pub word-at : (f j x : ℕ) → f < 2 → j < 4 → x < 256 → getD (getD wordTables (4 * f + j) []) x 0 ≡ column f j x

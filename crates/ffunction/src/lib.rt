@@ -23,16 +23,16 @@ fn column(words: &[[u32; 256]; 8], f: usize, j: usize, x: usize) -> u32
     words[4 * f + j][x]
 }
 
-// By word tables: one entry for each byte.
+// By word tables: one entry for each byte. A round waits for the four entries: the two that are found by the fewest steps come first (DECISIONS).
 fn by_words(words: &[[u32; 256]; 8], f: usize, z: u32) -> u32
     requires { ⌜ f < 2 ⌝ }
     requires { ⌜ now words ≡ wordTables ⌝ }
     ensures { λ r. ⌜ r ≡ mix f z ⌝ }
 {
-    column(words, f, 0, (z / 16777216 % 256) as usize)
-        ^ column(words, f, 1, (z / 65536 % 256) as usize)
+    column(words, f, 3, (z % 256) as usize)
         ^ column(words, f, 2, (z / 256 % 256) as usize)
-        ^ column(words, f, 3, (z % 256) as usize)
+        ^ column(words, f, 0, (z / 16777216 % 256) as usize)
+        ^ column(words, f, 1, (z / 65536 % 256) as usize)
 }
 
 // Four bytes through the boxes by turns, beginning with box i: by the lent tables, and by the rules.
