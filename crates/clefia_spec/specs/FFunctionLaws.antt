@@ -74,10 +74,11 @@ unfolding matrixTimes
 matrixTimes-lt m r =
     fromDigits-lt (lit< tt) (more (rowTimes-lt m 0 r) (more (rowTimes-lt m 1 r) (more (rowTimes-lt m 2 r) (more (rowTimes-lt m 3 r) none))))
 
+-- (by search, so that these bounds do not depend on the order of the boxes: a wrong order fails in Examples)
 pub f0-lt : (k x : ℕ) → f0 k x < 2 ^ 32
 unfolding f0
-f0-lt k x = matrixTimes-lt m0 (below-substitute s0 s1 s0-lt s1-lt (toDigits 256 4 (k ⊕ x)))
+f0-lt k x = search (matrixTimes-lt, below-substitute, s0-lt, s1-lt)
 
 pub f1-lt : (k x : ℕ) → f1 k x < 2 ^ 32
 unfolding f1
-f1-lt k x = matrixTimes-lt m1 (below-substitute s1 s0 s1-lt s0-lt (toDigits 256 4 (k ⊕ x)))
+f1-lt k x = search (matrixTimes-lt, below-substitute, s0-lt, s1-lt)

@@ -152,11 +152,7 @@ row-long {con} n {kl} {kr} c hl hr =
 
 row-extendKey : {k : List ℕ} → Below (2 ^ 32) k → Row 4 (extendKey k)
 unfolding extendKey
-row-extendKey {k} r =
-    record {
-      long = refl;
-      below = more (below-getD (lit< tt) r 4) (more (below-getD (lit< tt) r 5) (more (complement-lt 32 (getD k 0 0)) (more (complement-lt 32 (getD k 1 0)) none)));
-    }
+row-extendKey r = record { long = refl; below = search (more, none, below-getD, complement-lt, lit<, tt) depth 9 }
 
 pub row-expandKeyWords : {n : ℕ} → KeyLength n → {k : List ℕ} → Below (2 ^ 32) k → Row (byKeyLength n 40 48 56) (expandKeyWords n k)
 unfolding expandKeyWords
