@@ -21,8 +21,8 @@ fn round_count(w: &[u32]) -> usize
 
 pub fn encrypt_words(
     way: u64,
-    words: &[[u32; 256]; 8],
-    bytes: &[[u8; 256]; 2],
+    words: &[[u32; 256]],
+    bytes: &[[u8; 256]],
     w: &[u32],
     s: [u32; 4],
 ) -> [u32; 4]
@@ -37,8 +37,8 @@ pub fn encrypt_words(
 
 pub fn decrypt_words(
     way: u64,
-    words: &[[u32; 256]; 8],
-    bytes: &[[u8; 256]; 2],
+    words: &[[u32; 256]],
+    bytes: &[[u8; 256]],
     w: &[u32],
     s: [u32; 4],
 ) -> [u32; 4]
@@ -53,8 +53,8 @@ pub fn decrypt_words(
 
 pub fn encrypt_block(
     way: u64,
-    words: &[[u32; 256]; 8],
-    bytes: &[[u8; 256]; 2],
+    words: &[[u32; 256]],
+    bytes: &[[u8; 256]],
     w: &[u32],
     src: &[u8],
     dst: &mut [u8],
@@ -68,8 +68,8 @@ pub fn encrypt_block(
 
 pub fn decrypt_block(
     way: u64,
-    words: &[[u32; 256]; 8],
-    bytes: &[[u8; 256]; 2],
+    words: &[[u32; 256]],
+    bytes: &[[u8; 256]],
     w: &[u32],
     src: &[u8],
     dst: &mut [u8],

@@ -23,8 +23,8 @@ pub fn body_end(book: &[u8], from: usize, at: usize) -> usize
 pub fn recode_sheet(
     mark: u8,
     way: u64,
-    words: &[[u32; 256]; 8],
-    bytes: &[[u8; 256]; 2],
+    words: &[[u32; 256]],
+    bytes: &[[u8; 256]],
     w: &[u32],
     entry: &[u8],
     body: &[u8],
@@ -46,8 +46,8 @@ pub fn recode_sheet(
 pub fn recode_bodies(
     mark: u8,
     way: u64,
-    words: &[[u32; 256]; 8],
-    bytes: &[[u8; 256]; 2],
+    words: &[[u32; 256]],
+    bytes: &[[u8; 256]],
     w: &[u32],
     book: &[u8],
     out: &mut [u8],

@@ -36,8 +36,8 @@ impl Chain {
     pub fn encrypt(
         self,
         way: u64,
-        words: &[[u32; 256]; 8],
-        bytes: &[[u8; 256]; 2],
+        words: &[[u32; 256]],
+        bytes: &[[u8; 256]],
         w: &[u32],
         block: [u32; 4],
     ) -> Step
@@ -58,8 +58,8 @@ impl Chain {
     pub fn decrypt(
         self,
         way: u64,
-        words: &[[u32; 256]; 8],
-        bytes: &[[u8; 256]; 2],
+        words: &[[u32; 256]],
+        bytes: &[[u8; 256]],
         w: &[u32],
         block: [u32; 4],
     ) -> Step

@@ -12,8 +12,8 @@ use super::record;
 
 pub fn decrypt_sheet(
     way: u64,
-    words: &[[u32; 256]; 8],
-    bytes: &[[u8; 256]; 2],
+    words: &[[u32; 256]],
+    bytes: &[[u8; 256]],
     w: &[u32],
     entry: &[u8],
     body: &[u8],
@@ -48,8 +48,8 @@ pub fn decrypt_sheet(
 // Every record of an encrypted body, decrypted and dropped again: nothing is written.
 pub fn decrypted_sheet_holds(
     way: u64,
-    words: &[[u32; 256]; 8],
-    bytes: &[[u8; 256]; 2],
+    words: &[[u32; 256]],
+    bytes: &[[u8; 256]],
     w: &[u32],
     entry: &[u8],
     body: &[u8],

@@ -11,8 +11,8 @@ use super::entry;
 
 pub fn encrypt_sheet(
     way: u64,
-    words: &[[u32; 256]; 8],
-    bytes: &[[u8; 256]; 2],
+    words: &[[u32; 256]],
+    bytes: &[[u8; 256]],
     w: &[u32],
     entry: &[u8],
     body: &[u8],

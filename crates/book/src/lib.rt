@@ -28,8 +28,8 @@ fn write_book(
     mark: u8,
     to: u8,
     way: u64,
-    words: &[[u32; 256]; 8],
-    bytes: &[[u8; 256]; 2],
+    words: &[[u32; 256]],
+    bytes: &[[u8; 256]],
     w: &[u32],
     book: &[u8],
     out: &mut [u8],
@@ -47,8 +47,8 @@ fn recode_book(
     mark: u8,
     to: u8,
     way: u64,
-    words: &[[u32; 256]; 8],
-    bytes: &[[u8; 256]; 2],
+    words: &[[u32; 256]],
+    bytes: &[[u8; 256]],
     w: &[u32],
     book: &[u8],
     out: &mut [u8],
@@ -73,8 +73,8 @@ fn recode_book(
 
 pub fn encrypt_book(
     way: u64,
-    words: &[[u32; 256]; 8],
-    bytes: &[[u8; 256]; 2],
+    words: &[[u32; 256]],
+    bytes: &[[u8; 256]],
     w: &[u32],
     book: &[u8],
     out: &mut [u8],
@@ -88,8 +88,8 @@ pub fn encrypt_book(
 
 pub fn decrypt_book(
     way: u64,
-    words: &[[u32; 256]; 8],
-    bytes: &[[u8; 256]; 2],
+    words: &[[u32; 256]],
+    bytes: &[[u8; 256]],
     w: &[u32],
     book: &[u8],
     out: &mut [u8],

@@ -14,8 +14,8 @@ use super::record;
 pub fn sheet_holds(
     mark: u8,
     way: u64,
-    words: &[[u32; 256]; 8],
-    bytes: &[[u8; 256]; 2],
+    words: &[[u32; 256]],
+    bytes: &[[u8; 256]],
     w: &[u32],
     entry: &[u8],
     body: &[u8],
@@ -36,8 +36,8 @@ pub fn sheet_holds(
 pub fn records_hold(
     mark: u8,
     way: u64,
-    words: &[[u32; 256]; 8],
-    bytes: &[[u8; 256]; 2],
+    words: &[[u32; 256]],
+    bytes: &[[u8; 256]],
     w: &[u32],
     book: &[u8],
 ) -> bool

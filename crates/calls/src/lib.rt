@@ -58,8 +58,8 @@ pub fn constants(size: u64, out: &mut [u8]) -> Answer
 // The key expanded into w; then check 4, and the words as bytes.
 fn expand_into(
     way: u64,
-    words: &[[u32; 256]; 8],
-    bytes: &[[u8; 256]; 2],
+    words: &[[u32; 256]],
+    bytes: &[[u8; 256]],
     key: &[u8],
     w: &mut [u32],
     out: &mut [u8],
@@ -117,8 +117,8 @@ pub fn expand_key(key: &[u8], way: u64, out: &mut [u8]) -> Answer
 fn block_into(
     decrypting: bool,
     way: u64,
-    words: &[[u32; 256]; 8],
-    bytes: &[[u8; 256]; 2],
+    words: &[[u32; 256]],
+    bytes: &[[u8; 256]],
     key: &[u8],
     w: &mut [u32],
     block: &[u8],
@@ -208,8 +208,8 @@ pub fn decrypt_block(key: &[u8], way: u64, block: &[u8], out: &mut [u8]) -> Answ
 fn book_into(
     decrypting: bool,
     way: u64,
-    words: &[[u32; 256]; 8],
-    bytes: &[[u8; 256]; 2],
+    words: &[[u32; 256]],
+    bytes: &[[u8; 256]],
     key: &[u8],
     w: &mut [u32],
     book: &[u8],

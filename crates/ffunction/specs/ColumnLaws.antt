@@ -15,9 +15,8 @@ use Rattle.clefia_spec.specs.Field.{product}
 use Rattle.clefia_spec.specs.FieldLaws.{product-lt}
 use Rattle.clefia_spec.specs.FFunction.{entry, rowTimes, matrixTimes, substitute}
 use Rattle.clefia_spec.specs.FFunctionLaws.{s0-lt, s1-lt}
-use Rattle.gf256.specs.Values.{values, value, values-ext}
+use Rattle.gf256.specs.Values.{value, length-values}
 use Rattle.sbox.specs.Boxes.{box}
-use Rattle.sbox.specs.Rules.{s1ByColumns, s1-columns}
 use Rattle.ffunction.specs.Tables.{matrix, mix, columnTimes, column, wordTable, wordTables}
 
 byte-pow : (n : ℕ) → 256 ^ n ≡ 2 ^ (n * 8)
@@ -93,6 +92,10 @@ columns-mix f z h =
     last-first (column f 0 (z / 16777216 % 256)) (column f 1 (z / 65536 % 256)) (column f 2 (z / 256 % 256)) (column f 3 (z % 256))
     ∙ sym (mix-columns f z h)
 
+pub length-wordTables : length wordTables ≡ 8
+unfolding wordTables
+length-wordTables = length-values wordTable 0 8
+
 -- What stands in a word table.
 pub word-at : (f j x : ℕ) → f < 2 → j < 4 → x < 256 → getD (getD wordTables (4 * f + j) []) x 0 ≡ column f j x
 unfolding wordTables wordTable
@@ -101,11 +104,3 @@ word-at f j x hf hj hx =
     let ef : (4 * f + j) / 4 ≡ f = omega arith in
     let ej : (4 * f + j) % 4 ≡ j = omega arith in
     rw (value wordTable 8 (4 * f + j) [] t, value (column ((4 * f + j) / 4) ((4 * f + j) % 4)) 256 x 0 hx, ef, ej)
-
--- A table over S1 in fewer steps.
-unfoldable pub columnByColumns : ℕ → ℕ → ℕ → ℕ
-columnByColumns f j x = columnTimes (matrix f) j (s1ByColumns x)
-
-pub s1-column : (f j : ℕ) → (f + j) % 2 ≡ 1 → values (columnByColumns f j) 0 256 ≡ values (column f j) 0 256
-unfolding columnByColumns column box
-s1-column f j e = values-ext (columnByColumns f j) (column f j) 256 (λ x h. rw (e, s1-columns x h))

@@ -1,6 +1,4 @@
 // F0 and F1, the two functions of a round, by each of the three ways.
-pub mod tables;
-
 ghost use mathlib.Core.Path.{_≡_};
 ghost use mathlib.Core.List.{[], _∷_};
 ghost use Prim.Native.Nat.{_-_, _<_};
@@ -15,7 +13,7 @@ ghost use Rattle.sbox.specs.Boxes.{box};
 ghost use Rattle.ffunction.specs.Tables.{mix, column, wordTables, byteTables, Lent};
 
 // Entry x of the table for column j of M0 (f is 0) or M1 (f is 1).
-fn column(words: &[[u32; 256]; 8], f: usize, j: usize, x: usize) -> u32
+fn column(words: &[[u32; 256]], f: usize, j: usize, x: usize) -> u32
     requires { ⌜ (f < 2) × (j < 4) × (x < 256) ⌝ }
     requires { ⌜ now words ≡ wordTables ⌝ }
     ensures { λ r. ⌜ r ≡ column f j x ⌝ }
@@ -24,7 +22,7 @@ fn column(words: &[[u32; 256]; 8], f: usize, j: usize, x: usize) -> u32
 }
 
 // By word tables: one entry for each byte. A round waits for the four entries: the two that are found by the fewest steps come first (DECISIONS).
-fn by_words(words: &[[u32; 256]; 8], f: usize, z: u32) -> u32
+fn by_words(words: &[[u32; 256]], f: usize, z: u32) -> u32
     requires { ⌜ f < 2 ⌝ }
     requires { ⌜ now words ≡ wordTables ⌝ }
     ensures { λ r. ⌜ r ≡ mix f z ⌝ }
@@ -36,7 +34,7 @@ fn by_words(words: &[[u32; 256]; 8], f: usize, z: u32) -> u32
 }
 
 // Four bytes through the boxes by turns, beginning with box i: by the lent tables, and by the rules.
-fn by_tables(bytes: &[[u8; 256]; 2], i: usize, a: u8, b: u8, c: u8, d: u8) -> [u8; 4]
+fn by_tables(bytes: &[[u8; 256]], i: usize, a: u8, b: u8, c: u8, d: u8) -> [u8; 4]
     requires { ⌜ i < 2 ⌝ }
     requires { ⌜ now bytes ≡ byteTables ⌝ }
     ensures { λ r. ⌜ r ≡ box i a ∷ box (1 - i) b ∷ box i c ∷ box (1 - i) d ∷ [] ⌝ }
@@ -62,7 +60,7 @@ fn by_rules(i: usize, a: u8, b: u8, c: u8, d: u8) -> [u8; 4]
 }
 
 // The same of the four bytes of a word, by way 1 or by any other.
-fn substitute(way: u64, bytes: &[[u8; 256]; 2], i: usize, z: u32) -> [u8; 4]
+fn substitute(way: u64, bytes: &[[u8; 256]], i: usize, z: u32) -> [u8; 4]
     requires { ⌜ i < 2 ⌝ }
     requires { ⌜ (way ≡ 1 → now bytes ≡ byteTables) ⌝ }
     ensures { λ r. ⌜ r ≡ substitute (box i) (box (1 - i)) (toDigits 256 4 z) ⌝ }
@@ -105,7 +103,7 @@ fn matrix_times(a: u8, b: u8, c: u8, d: u8, y: [u8; 4]) -> u32
 }
 
 // Byte by byte, by ways 1 and 3. It is one function for F0 and F1 so that it stays out of line, and the rounds keep F0 and F1 inlined (DECISIONS).
-fn by_bytes(way: u64, bytes: &[[u8; 256]; 2], f: usize, z: u32) -> u32
+fn by_bytes(way: u64, bytes: &[[u8; 256]], f: usize, z: u32) -> u32
     requires { ⌜ f < 2 ⌝ }
     requires { ⌜ (way ≡ 1 → now bytes ≡ byteTables) ⌝ }
     ensures { λ r. ⌜ r ≡ mix f z ⌝ }
@@ -117,7 +115,7 @@ fn by_bytes(way: u64, bytes: &[[u8; 256]; 2], f: usize, z: u32) -> u32
     }
 }
 
-pub fn f0(way: u64, words: &[[u32; 256]; 8], bytes: &[[u8; 256]; 2], k: u32, x: u32) -> u32
+pub fn f0(way: u64, words: &[[u32; 256]], bytes: &[[u8; 256]], k: u32, x: u32) -> u32
     requires { ⌜ Lent way (now words) (now bytes) ⌝ }
     ensures { λ r. ⌜ r ≡ f0 k x ⌝ }
 {
@@ -128,7 +126,7 @@ pub fn f0(way: u64, words: &[[u32; 256]; 8], bytes: &[[u8; 256]; 2], k: u32, x: 
     }
 }
 
-pub fn f1(way: u64, words: &[[u32; 256]; 8], bytes: &[[u8; 256]; 2], k: u32, x: u32) -> u32
+pub fn f1(way: u64, words: &[[u32; 256]], bytes: &[[u8; 256]], k: u32, x: u32) -> u32
     requires { ⌜ Lent way (now words) (now bytes) ⌝ }
     ensures { λ r. ⌜ r ≡ f1 k x ⌝ }
 {

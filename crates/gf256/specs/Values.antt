@@ -3,7 +3,7 @@ use Prim.Native.Nat.{ℕ, zero, suc, _+_, _<_, suc-le-suc}
 use native.Mathlib.Nat.{add-zero, zero-add, add-suc, suc-add, le-of-suc-le-suc, not-suc-le-zero, zero-lt-suc}
 use mathlib.Core.Path.{_≡_, refl, ap, sym, _∙_}
 use mathlib.Core.List.{List, [], _∷_}
-use lib.ListN.{getD}
+use lib.ListN.{getD, length}
 
 -- The n values of f from i on.
 unfoldable pub values {ℓ} : {A : Type ℓ} → (ℕ → A) → ℕ → ℕ → List A
@@ -19,6 +19,12 @@ valueFrom f i (suc n) (suc k) d h = valueFrom f (suc i) n k d (le-of-suc-le-suc 
 -- What stands at place k of the row.
 pub value {ℓ} : {A : Type ℓ} (f : ℕ → A) (n k : ℕ) (d : A) → k < n → getD (values f 0 n) k d ≡ f k
 value f n k d h = valueFrom f 0 n k d h ∙ ap f (zero-add k)
+
+-- As many as were asked for.
+pub length-values {ℓ} : {A : Type ℓ} (f : ℕ → A) (i n : ℕ) → length (values f i n) ≡ n
+unfolding values
+length-values f i zero = refl
+length-values f i (suc n) = ap suc (length-values f (suc i) n)
 
 -- Functions that agree at these arguments have the same values.
 valuesFrom-ext {ℓ} : {A : Type ℓ} (f g : ℕ → A) (i n : ℕ) → ((k : ℕ) → k < n → f (i + k) ≡ g (i + k)) → values f i n ≡ values g i n

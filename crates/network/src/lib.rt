@@ -22,8 +22,8 @@ fn rotate_right4(s: [u32; 4]) -> [u32; 4]
 // The Feistel step of a round, with the round keys at `at` of `w`.
 fn feistel4(
     way: u64,
-    words: &[[u32; 256]; 8],
-    bytes: &[[u8; 256]; 2],
+    words: &[[u32; 256]],
+    bytes: &[[u8; 256]],
     w: &[u32],
     at: usize,
     s: [u32; 4],
@@ -40,8 +40,8 @@ fn feistel4(
 // n rounds with the round keys from `at` on.
 pub fn network4(
     way: u64,
-    words: &[[u32; 256]; 8],
-    bytes: &[[u8; 256]; 2],
+    words: &[[u32; 256]],
+    bytes: &[[u8; 256]],
     w: &[u32],
     n: usize,
     at: usize,
@@ -66,8 +66,8 @@ pub fn network4(
 // The same rounds taken back, the last one first.
 pub fn inverse_network4(
     way: u64,
-    words: &[[u32; 256]; 8],
-    bytes: &[[u8; 256]; 2],
+    words: &[[u32; 256]],
+    bytes: &[[u8; 256]],
     w: &[u32],
     n: usize,
     at: usize,
@@ -103,8 +103,8 @@ fn rotate_right8(s: [u32; 8]) -> [u32; 8]
 
 fn feistel8(
     way: u64,
-    words: &[[u32; 256]; 8],
-    bytes: &[[u8; 256]; 2],
+    words: &[[u32; 256]],
+    bytes: &[[u8; 256]],
     w: &[u32],
     at: usize,
     s: [u32; 8],
@@ -122,8 +122,8 @@ fn feistel8(
 
 pub fn network8(
     way: u64,
-    words: &[[u32; 256]; 8],
-    bytes: &[[u8; 256]; 2],
+    words: &[[u32; 256]],
+    bytes: &[[u8; 256]],
     w: &[u32],
     n: usize,
     at: usize,

@@ -2,9 +2,9 @@
 use Prim.Native.Nat.{ℕ, zero, suc, _<_}
 use mathlib.Core.Path.{_≡_}
 use mathlib.Core.List.{List, []}
-use lib.ListN.{getD}
+use lib.ListN.{length, getD}
 use Rattle.clefia_spec.specs.Sbox.{s0, s1}
-use Rattle.gf256.specs.Values.{values, value}
+use Rattle.gf256.specs.Values.{values, value, length-values}
 
 -- S0 is number 0, S1 number 1.
 unfoldable pub box : ℕ → ℕ → ℕ
@@ -18,6 +18,10 @@ byteTable i = values (box i) 0 256
 -- Both tables.
 unfoldable pub byteTables : List (List ℕ)
 byteTables = values byteTable 0 2
+
+pub length-byteTables : length byteTables ≡ 2
+unfolding byteTables
+length-byteTables = length-values byteTable 0 2
 
 -- What stands in a table.
 pub byte-at : (i x : ℕ) → i < 2 → x < 256 → getD (getD byteTables i []) x 0 ≡ box i x

@@ -7,7 +7,7 @@ ghost use Prim.Native.Nat.{_<_};
 ghost use Rattle.sbox.specs.Boxes.{box, byteTables};
 
 // Box i of a byte, read from the lent table.
-pub fn by_table(bytes: &[[u8; 256]; 2], i: usize, x: u8) -> u8
+pub fn by_table(bytes: &[[u8; 256]], i: usize, x: u8) -> u8
     requires { ⌜ i < 2 ⌝ }
     requires { ⌜ now bytes ≡ byteTables ⌝ }
     ensures { λ r. ⌜ r ≡ box i x ⌝ }

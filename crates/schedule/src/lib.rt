@@ -94,8 +94,8 @@ fn round_keys(
 // A key of four words.
 fn expand_short(
     way: u64,
-    words: &[[u32; 256]; 8],
-    bytes: &[[u8; 256]; 2],
+    words: &[[u32; 256]],
+    bytes: &[[u8; 256]],
     k: [u32; 4],
     w: &mut [u32],
 )
@@ -130,8 +130,8 @@ fn second_half(s: [u32; 8]) -> [u32; 4]
 // KL and KR of a longer key, its constants and its number of steps.
 fn expand_long(
     way: u64,
-    words: &[[u32; 256]; 8],
-    bytes: &[[u8; 256]; 2],
+    words: &[[u32; 256]],
+    bytes: &[[u8; 256]],
     con: &[u32],
     n: usize,
     kl: [u32; 4],
@@ -164,8 +164,8 @@ fn extend_key(key: &[u8]) -> [u32; 4]
 // The expanded key of a key of 16, 24 or 32 bytes.
 pub fn expand_key(
     way: u64,
-    words: &[[u32; 256]; 8],
-    bytes: &[[u8; 256]; 2],
+    words: &[[u32; 256]],
+    bytes: &[[u8; 256]],
     key: &[u8],
     w: &mut [u32],
 )

@@ -1,5 +1,6 @@
 -- `ffunction::column` meets its contract.
-use Rattle.ffunction.specs.ColumnLaws.{word-at}
+use Rattle.ffunction.specs.ColumnLaws.{word-at, length-wordTables}
+use Prim.Native.Nat.{_+_, _*_, _<_}
 use borrow.Author.Needs.{needs}
 use Rattle.ffunction.proofs.column.Statement.{statement}
 use Rattle.ffunction.proofs.column.Tie as tie
@@ -17,7 +18,9 @@ mul-result-3 : tie.Need-mul-result-3
 mul-result-3 c = search needs
 
 index-1-result : tie.Need-index-1-result
-index-1-result c = search needs
+index-1-result c =
+    let h : 4 * c .args .f + c .args .j < 8 = search needs in
+    rw (c .pre .1, length-wordTables) h
 
 index-2-result : tie.Need-index-2-result
 index-2-result c = search needs

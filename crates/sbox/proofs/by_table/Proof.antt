@@ -1,5 +1,5 @@
 -- `sbox::by_table` meets its contract.
-use Rattle.sbox.specs.Boxes.{byte-at}
+use Rattle.sbox.specs.Boxes.{byte-at, length-byteTables}
 use borrow.Author.Needs.{needs}
 use Rattle.sbox.proofs.by_table.Statement.{statement}
 use Rattle.sbox.proofs.by_table.Tie as tie
@@ -8,7 +8,7 @@ mul-result : tie.Need-mul-result
 mul-result c = search needs
 
 index-1-result : tie.Need-index-1-result
-index-1-result c = search needs
+index-1-result c = rw (c .pre .1, length-byteTables) (c .pre .0)
 
 index-2-result : tie.Need-index-2-result
 index-2-result c = search needs

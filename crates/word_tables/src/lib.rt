@@ -2124,7 +2124,7 @@ fn column13() -> [u32; 256]
 }
 
 // All eight, to be lent.
-pub fn word_tables() -> [[u32; 256]; 8]
+pub fn all() -> [[u32; 256]; 8]
     ensures { λ r. ⌜ r ≡ wordTables ⌝ }
 {
     [

@@ -1,9 +1,9 @@
--- `ffunction::tables::word_tables` meets its contract.
+-- `word_tables::all` meets its contract.
 use Rattle.gf256.specs.Values.{values}
 use Rattle.ffunction.specs.Tables.{wordTables}
 use borrow.Author.Needs.{needs}
-use Rattle.ffunction.proofs.tables.word_tables.Statement.{statement}
-use Rattle.ffunction.proofs.tables.word_tables.Tie as tie
+use Rattle.word_tables.proofs.all.Statement.{statement}
+use Rattle.word_tables.proofs.all.Tie as tie
 
 column00-requires : tie.Need-column00-requires
 column00-requires c κs = search needs
@@ -33,8 +33,8 @@ returns : tie.Need-returns
 unfolding values wordTables
 returns c = cc
 
-pub word-tables-spec : {M : Type 1} → statement M
-word-tables-spec =
+pub all-spec : {M : Type 1} → statement M
+all-spec =
     tie.close
     (tie.spec
     column00-requires

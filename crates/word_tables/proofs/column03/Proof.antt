@@ -1,14 +1,14 @@
--- `ffunction::tables::column03` meets its contract: the rule is computed at each byte.
+-- `word_tables::column03` meets its contract: the rule is computed at each byte.
 use mathlib.Core.Path.{refl}
 use Rattle.clefia_spec.specs.Words.{fromDigits}
 use Rattle.clefia_spec.specs.Field.{double, addProduct, product}
 use Rattle.clefia_spec.specs.FFunction.{m0, entry}
 use Rattle.gf256.specs.Values.{values}
 use Rattle.sbox.specs.Rules.{addColumns, fByColumns, gByColumns, power14, inverseBySubfield, s1ByColumns}
 use Rattle.ffunction.specs.Tables.{matrix, columnTimes, wordTable}
-use Rattle.ffunction.specs.ColumnLaws.{columnByColumns, s1-column}
-use Rattle.ffunction.proofs.tables.column03.Statement.{statement}
-use Rattle.ffunction.proofs.tables.column03.Tie as tie
+use Rattle.word_tables.specs.ColumnsOfS1.{columnByColumns, s1-column}
+use Rattle.word_tables.proofs.column03.Statement.{statement}
+use Rattle.word_tables.proofs.column03.Tie as tie
 
 returns : tie.Need-returns
 unfolding wordTable values columnByColumns columnTimes matrix m0 entry fromDigits double addProduct product addColumns fByColumns gByColumns power14 inverseBySubfield s1ByColumns

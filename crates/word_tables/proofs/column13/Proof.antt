@@ -1,4 +1,4 @@
--- `ffunction::tables::column11` meets its contract: the rule is computed at each byte.
+-- `word_tables::column13` meets its contract: the rule is computed at each byte.
 use mathlib.Core.Path.{refl}
 use Rattle.clefia_spec.specs.Words.{fromDigits}
 use Rattle.clefia_spec.specs.Field.{double, addProduct, product}
@@ -6,13 +6,13 @@ use Rattle.clefia_spec.specs.Sbox.{ss0, ss1, ss2, ss3, s0}
 use Rattle.clefia_spec.specs.FFunction.{m1, entry}
 use Rattle.gf256.specs.Values.{values}
 use Rattle.sbox.specs.Boxes.{box}
 use Rattle.ffunction.specs.Tables.{matrix, columnTimes, column, wordTable}
-use Rattle.ffunction.proofs.tables.column11.Statement.{statement}
-use Rattle.ffunction.proofs.tables.column11.Tie as tie
+use Rattle.word_tables.proofs.column13.Statement.{statement}
+use Rattle.word_tables.proofs.column13.Tie as tie
 
 returns : tie.Need-returns
 unfolding wordTable values column columnTimes matrix m1 entry fromDigits double addProduct product box ss0 ss1 ss2 ss3 s0
 returns c = refl
 
-pub column11-spec : {M : Type 1} → statement M
-column11-spec = tie.close (tie.spec returns)
+pub column13-spec : {M : Type 1} → statement M
+column13-spec = tie.close (tie.spec returns)
