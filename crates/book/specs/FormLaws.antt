@@ -12,7 +12,7 @@ use Rattle.planbook_spec.specs.Outcome.{accepted}
 use Rattle.planbook_spec.specs.OutcomeLaws.{AllPass, pass-head, pass-tail}
 use Rattle.planbook_spec.specs.Book.{sheetCount, contents, recordCount, formChecks}
 use Rattle.book.specs.Form.{headAnswer, contentsAnswer, formAnswer}
-use Rattle.book.specs.Judging.{stopped-first, passed-first, Went, went}
+use Rattle.answer.specs.Judging.{stopped-first, passed-first, Went, went}
 use Rattle.book.specs.Tests.{second-passed}
 
 -- What passed checks say of a book's sizes.

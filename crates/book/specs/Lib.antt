@@ -3,7 +3,6 @@ pub mod Exchange
 pub mod Form
 pub mod Tests
 pub mod Walks
-pub mod Judging
 pub mod FormLaws
 pub mod Blocks
 pub mod Chain

@@ -2,26 +2,28 @@
 use Prim.Native.Nat.{ℕ, _+_, _*_, _≤_}
 use mathlib.Core.Bool.{Bool, true, false, not, _||_}
 use mathlib.Core.Logic.{_≢_}
-use mathlib.Core.List.{List, [], _∷_, _++_}
-use mathlib.Core.Path.{_≡_, refl, sym, ap, subst, _∙_}
+use mathlib.Core.List.{List, [], _∷_}
+use mathlib.Core.Path.{_≡_, refl, sym, ap, _∙_}
 use native.Mathlib.Omega.{arith}
-use borrow.Author.Tests.{not-true, not-false, eq-eqb, ne-eqb}
+use borrow.Author.Tests.{not-true, not-false}
 use lib.Dec.{eqb, lit≤}
 use lib.ListN.{length, take, length-take}
 use Rattle.clefia_spec.specs.Words.{bytesOf, byKeyLength, KeyLength, sixteen, twentyFour, thirtyTwo}
 use Rattle.clefia_spec.specs.Constants.{constants}
 use Rattle.clefia_spec.specs.KeyLaws.{length-constants}
 use Rattle.clefia_spec.specs.KeySchedule.{expandKey}
-use Rattle.clefia_spec.specs.Block.{encryptUnder, decryptUnder, encrypt, decrypt}
+use Rattle.clefia_spec.specs.Block.{encryptUnder, decryptUnder}
 use Rattle.ffunction.specs.Tables.{wordTables, byteTables, Lent}
-use Rattle.answer.specs.Answer.{answerOf, Given}
+use Rattle.answer.specs.Answer.{Given}
+use Rattle.answer.specs.Judging.{stopped, Went, went}
 use Rattle.answer.specs.declared.Answer.{Answer}
 use Rattle.answer.specs.declared.Answer.the-variants.{Accepted, Refused}
-use Rattle.planbook_spec.specs.Outcome.{Outcome, refused, accepted, after, Check, check, judged}
-use Rattle.planbook_spec.specs.OutcomeLaws.{judged-true, judged-false, judged-append, pass-check}
-use Rattle.planbook_spec.specs.Checks.{keyAndWay, keyCheck, wayCheck, blockCheck, outputCheck, constantCount, expandedCount, constantsCall, expandKeyCall, blockChecks, encryptBlockCall, decryptBlockCall}
-use Rattle.planbook_spec.specs.Book.{bookChecks, encryptBookBy, decryptBookBy, encryptBookCall, decryptBookCall}
-use Rattle.planbook_spec.specs.CheckLaws.{key-permitted, key-accepted, key-refused, output-accepted}
+use Rattle.planbook_spec.specs.Outcome.{Outcome, refused, accepted, after, judged}
+use Rattle.planbook_spec.specs.OutcomeLaws.{AllPass, judged-pass, pass-check}
+use Rattle.planbook_spec.specs.Checks.{keyAndWay, keyCheck, outputCheck, constantCount, expandedCount, constantsCall}
+use Rattle.planbook_spec.specs.CheckLaws.{key-permitted, key-accepted, key-refused}
+use Rattle.calls.specs.declared.Task.{Task}
+use Rattle.calls.specs.Tasks.{keyAnswer, codedUnder, performed, under, performed-under, keyedCall}
 
 -- ---- an answer from its outcome
 
@@ -51,27 +53,55 @@ failed {r} e h = sym e ∙ not-true r h
 pub passed : {r t : Bool} → r ≡ t → not r ≡ false → t ≡ true
 passed {r} e h = sym e ∙ not-false r h
 
-pub permitted : {n : ℕ} → eqb n 16 || eqb n 24 || eqb n 32 ≡ true → KeyLength n
-unfolding keyCheck
-permitted {n} e = key-permitted {n = n} {cs = []} (pass-check e)
+-- ---- checks 1 and 2
 
--- ---- sizes
+pub expanded-size : (n : ℕ) → eqb n 16 || eqb n 24 || eqb n 32 ≡ true → 24 + n ≡ expandedCount n
+unfolding keyCheck expandedCount
+expanded-size n e = size (key-permitted {n = n} {cs = []} (pass-check e))
+  where
+    size : {n : ℕ} → KeyLength n → 24 + n ≡ byKeyLength n 40 48 56
+    size sixteen = refl
+    size twentyFour = refl
+    size thirtyTwo = refl
 
-expanded-size : {n : ℕ} → KeyLength n → 24 + n ≡ byKeyLength n 40 48 56
-expanded-size sixteen = refl
-expanded-size twentyFour = refl
-expanded-size thirtyTwo = refl
+-- what is known of a key and a way that passed, with the count that was answered
+pub record Keyed (key : List ℕ) (way n : ℕ) : Type 0 where
+  pub checks : AllPass (keyAndWay key way)
+  pub long : KeyLength (length key)
+  pub count : n ≡ expandedCount (length key)
 
-pub expanded-fits : {n : ℕ} → KeyLength n → 24 + n ≤ 56
-expanded-fits sixteen = lit≤ tt
-expanded-fits twentyFour = lit≤ tt
-expanded-fits thirtyTwo = lit≤ tt
+pub keyed : (key : List ℕ) (way : ℕ) {n : ℕ} → Accepted n ≡ keyAnswer key way → Keyed key way n
+keyed key way {n} e =
+    let w : Went (keyAndWay key way) (expandedCount (length key)) n = went (keyAndWay key way) _ e in
+    record { checks = w .checks; long = key-permitted (w .checks); count = w .same }
 
-pub prefix : {n : ℕ} (w : List ℕ) → KeyLength n → length w ≡ 56 → 24 + n ≡ length (take (24 + n) w)
-prefix {n} w k e = let h : 24 + n ≤ 56 = expanded-fits k in omega (arith, length-take (24 + n) w)
+pub keyed-refused : (task : Task) (key : List ℕ) (way : ℕ) (src out : List ℕ) {r : Answer} {c : ℕ} → r ≡ keyAnswer key way → r ≡ Refused c
+    → Given (keyedCall task key way src out) out r out
+unfolding keyedCall
+keyed-refused task key way src out e h = rw h (given-refused out (stopped (keyAndWay key way) _ _ (sym h ∙ e)))
 
-pub expanded-prefix : {n : ℕ} (w : List ℕ) → KeyLength n → length w ≡ 56 → length (take (24 + n) w) ≡ byKeyLength n 40 48 56
-expanded-prefix {n} w k e = sym (prefix w k e) ∙ expanded-size k
+pub keyed-passed : (task : Task) {key : List ℕ} {way n : ℕ} (src out : List ℕ) {exit : List ℕ} {r : Answer} → Keyed key way n
+    → Given (performed task key src out) out r exit → Given (keyedCall task key way src out) out r exit
+unfolding keyedCall
+keyed-passed task src out k g = given-same (judged-pass (k .checks) _) g
+
+-- ---- the words of the expanded key, at the front of 56
+
+pub expanded-fits : {key : List ℕ} {way n : ℕ} → Keyed key way n → n ≤ 56
+unfolding expandedCount
+expanded-fits k = rw (k .count) (fits (k .long))
+  where
+    fits : {n : ℕ} → KeyLength n → byKeyLength n 40 48 56 ≤ 56
+    fits sixteen = lit≤ tt
+    fits twentyFour = lit≤ tt
+    fits thirtyTwo = lit≤ tt
+
+pub prefix : {key : List ℕ} {way n : ℕ} (w : List ℕ) → Keyed key way n → length w ≡ 56 → n ≡ length (take n w)
+prefix {n = n} w k e = let h : n ≤ 56 = expanded-fits k in omega (arith, length-take n w)
+
+pub expanded-prefix : {key : List ℕ} {way n : ℕ} (w : List ℕ) → Keyed key way n → length w ≡ 56 → length (take n w) ≡ byKeyLength (length key) 40 48 56
+unfolding expandedCount
+expanded-prefix w k e = sym (prefix w k e) ∙ k .count
 
 -- ---- the constants
 
@@ -85,11 +115,11 @@ expanded-small sixteen = lit≤ tt
 expanded-small twentyFour = lit≤ tt
 expanded-small thirtyTwo = lit≤ tt
 
--- words written, under their other names
-pub given-words : {ws xs : List ℕ} {m : ℕ} {out exit : List ℕ} {r : Answer} → ws ≡ xs → length ws ≡ m
-    → Given (judged (outputCheck (4 * length ws) out ∷ []) (accepted (length ws) (bytesOf ws))) out r exit
-    → Given (judged (outputCheck (4 * m) out ∷ []) (accepted m (bytesOf xs))) out r exit
-given-words {ws} {out = out} e l g = rw (← e, ← l) g
+-- a task done under the words of the expanded key
+pub given-performed : {task t : Task} {w : List ℕ} (key src out : List ℕ) {exit : List ℕ} {r : Answer} → task ≡ t → w ≡ expandKey key
+    → length w ≡ byKeyLength (length key) 40 48 56 → Given (under t w src out) out r exit → Given (performed task key src out) out r exit
+unfolding expandedCount
+given-performed {t = t} key src out h e l g = rw h (given-same (performed-under t key src out e l) g)
 
 pub given-constants : {n size : ℕ} {ws out exit : List ℕ} {r : Answer} → KeyLength n → size ≡ n → ws ≡ constants n
     → Given (judged (outputCheck (4 * length ws) out ∷ []) (accepted (length ws) (bytesOf ws))) out r exit → Given (constantsCall size out) out r exit
@@ -99,68 +129,20 @@ pub constants-refused : (size : ℕ) (out : List ℕ) → size ≢ 16 → size �
 unfolding constantsCall
 constants-refused size out a b c = key-refused _ _ size a b c
 
--- ---- one block, either way round
+-- ---- one block, by the test that the code made
 
-unfoldable pub codedBlock : Bool → List ℕ → List ℕ → List ℕ
-codedBlock true key block = decrypt key block
-codedBlock false key block = encrypt key block
+pub decrypted : {d : Bool} (w block : List ℕ) {exit : List ℕ} → d ≡ true → exit ≡ decryptUnder w block → exit ≡ codedUnder d w block
+unfolding codedUnder
+decrypted w block e g = rw e g
 
--- the checks are the same
-unfoldable pub blockCall : Bool → List ℕ → ℕ → List ℕ → List ℕ → Outcome
-blockCall d key way block out = judged (blockChecks key way block out) (accepted 1 (codedBlock d key block))
-
-pub encrypt-call : (key : List ℕ) (way : ℕ) (block out : List ℕ) → encryptBlockCall key way block out ≡ blockCall false key way block out
-unfolding encryptBlockCall blockCall codedBlock
-encrypt-call key way block out = refl
-
-pub decrypt-call : (key : List ℕ) (way : ℕ) (block out : List ℕ) → decryptBlockCall key way block out ≡ blockCall true key way block out
-unfolding decryptBlockCall blockCall codedBlock
-decrypt-call key way block out = refl
-
--- under the words of the expanded key, by the test that the code made
-pub decrypted : {d : Bool} (ws key block : List ℕ) {exit : List ℕ} → d ≡ true → ws ≡ expandKey key → exit ≡ decryptUnder ws block → exit ≡ codedBlock d key block
-unfolding decrypt codedBlock
-decrypted ws key block e h g = rw (e, ← h) g
-
-pub encrypted : {d : Bool} (ws key block : List ℕ) {exit : List ℕ} → d ≡ false → ws ≡ expandKey key → exit ≡ encryptUnder ws block → exit ≡ codedBlock d key block
-unfolding encrypt codedBlock
-encrypted ws key block e h g = rw (e, ← h) g
+pub encrypted : {d : Bool} (w block : List ℕ) {exit : List ℕ} → d ≡ false → exit ≡ encryptUnder w block → exit ≡ codedUnder d w block
+unfolding codedUnder
+encrypted w block e g = rw e g
 
 pub expanded-large : {n m : ℕ} → KeyLength n → m ≡ byKeyLength n 40 48 56 → 4 ≤ m
 expanded-large sixteen e = rw e (lit≤ tt)
 expanded-large twentyFour e = rw e (lit≤ tt)
 expanded-large thirtyTwo e = rw e (lit≤ tt)
-
--- ---- one book, either way round
-
--- checks 4 to 11, and the book
-unfoldable pub bookUnder : Bool → List ℕ → List ℕ → List ℕ → Outcome
-bookUnder true key book out = decryptBookBy [] (decrypt key) book out
-bookUnder false key book out = encryptBookBy [] (encrypt key) book out
-
-unfoldable pub bookCall : Bool → List ℕ → ℕ → List ℕ → List ℕ → Outcome
-bookCall d key way book out = judged (keyAndWay key way) (bookUnder d key book out)
-
-pub encrypt-book-call : (key : List ℕ) (way : ℕ) (book out : List ℕ) → encryptBookCall key way book out ≡ bookCall false key way book out
-unfolding encryptBookCall bookCall bookUnder encryptBookBy bookChecks
-encrypt-book-call key way book out = judged-append (keyAndWay key way) _ _
-
-pub decrypt-book-call : (key : List ℕ) (way : ℕ) (book out : List ℕ) → decryptBookCall key way book out ≡ bookCall true key way book out
-unfolding decryptBookCall bookCall bookUnder decryptBookBy bookChecks
-decrypt-book-call key way book out = judged-append (keyAndWay key way) _ _
-
--- under the words of the expanded key, by the test that the code made
-pub decrypted-book : {d : Bool} (ws key book : List ℕ) {out exit : List ℕ} {r : Answer} → d ≡ true → ws ≡ expandKey key
-    → Given (decryptBookBy [] (decryptUnder ws) book out) out r exit → Given (bookUnder d key book out) out r exit
-unfolding decrypt bookUnder
-decrypted-book ws key book {out} {exit} {r} e h g =
-    rw e (subst (λ (x : List ℕ). Given (decryptBookBy [] (decryptUnder x) book out) out r exit) h g)
-
-pub encrypted-book : {d : Bool} (ws key book : List ℕ) {out exit : List ℕ} {r : Answer} → d ≡ false → ws ≡ expandKey key
-    → Given (encryptBookBy [] (encryptUnder ws) book out) out r exit → Given (bookUnder d key book out) out r exit
-unfolding encrypt bookUnder
-encrypted-book ws key book {out} {exit} {r} e h g =
-    rw e (subst (λ (x : List ℕ). Given (encryptBookBy [] (encryptUnder x) book out) out r exit) h g)
 
 -- ---- the tables that a way reads
 

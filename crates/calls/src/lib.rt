@@ -6,12 +6,11 @@ ghost use lib.Dec.{eqb};
 ghost use lib.ListN.{length};
 ghost use Prim.Native.Nat.{_*_, _≤_};
 ghost use Rattle.clefia_spec.specs.Words.{bytesOf, byKeyLength, KeyLength};
-ghost use Rattle.clefia_spec.specs.KeySchedule.{expandKey};
 ghost use Rattle.ffunction.specs.Tables.{Lent};
 ghost use Rattle.planbook_spec.specs.Outcome.{accepted, judged};
-ghost use Rattle.planbook_spec.specs.Checks.{outputCheck, expandedCount, constantsCall, expandKeyCall, encryptBlockCall, decryptBlockCall};
+ghost use Rattle.planbook_spec.specs.Checks.{outputCheck, constantsCall, expandKeyCall, encryptBlockCall, decryptBlockCall};
 ghost use Rattle.answer.specs.Answer.{Given};
-ghost use Rattle.calls.specs.CallLaws.{codedBlock, blockCall, bookUnder, bookCall};
+ghost use Rattle.calls.specs.Tasks.{keyAnswer, blockUnder, performed, keyedCall};
 ghost use Rattle.planbook_spec.specs.Book.{encryptBookCall, decryptBookCall};
 use answer::Answer;
 
@@ -55,52 +54,9 @@ pub fn constants(size: u64, out: &mut [u8]) -> Answer
     Answer::Refused(1)
 }
 
-// The key expanded into w; then check 4, and the words as bytes.
-fn expand_into(
-    way: u64,
-    words: &[[u32; 256]],
-    bytes: &[[u8; 256]],
-    key: &[u8],
-    w: &mut [u32],
-    out: &mut [u8],
-) -> Answer
-    requires { ⌜ Lent way (now words) (now bytes) ⌝ }
-    requires { ⌜ KeyLength (length (now key)) ⌝ }
-    requires { ⌜ length (now w) ≡ byKeyLength (length (now key)) 40 48 56 ⌝ }
-    ensures { λ r. ⌜ Given (judged (outputCheck (4 * expandedCount (length (now (key .entry)))) (now (out .entry)) ∷ []) (accepted (expandedCount (length (now (key .entry)))) (bytesOf (expandKey (now (key .entry)))))) (now (out .entry)) r (now (out .exit)) ⌝ }
-{
-    schedule::expand_key(way, words, bytes, key, w);
-    write_words(w, out)
-}
-
-// The same with the tables that the way reads, each fetched where it is lent: a table costs a copy. The others are zeros, which nobody reads.
-fn expand_by(way: u64, key: &[u8], w: &mut [u32], out: &mut [u8]) -> Answer
-    requires { ⌜ KeyLength (length (now key)) ⌝ }
-    requires { ⌜ length (now w) ≡ byKeyLength (length (now key)) 40 48 56 ⌝ }
-    ensures { λ r. ⌜ Given (judged (outputCheck (4 * expandedCount (length (now (key .entry)))) (now (out .entry)) ∷ []) (accepted (expandedCount (length (now (key .entry)))) (bytesOf (expandKey (now (key .entry)))))) (now (out .entry)) r (now (out .exit)) ⌝ }
-{
-    if way == 2 {
-        return expand_into(
-            way,
-            &ffunction::tables::word_tables(),
-            &[[0u8; 256]; 2],
-            key,
-            w,
-            out,
-        );
-    }
-    expand_into(
-        way,
-        &[[0u32; 256]; 8],
-        &sbox::tables::byte_tables(),
-        key,
-        w,
-        out,
-    )
-}
-
-pub fn expand_key(key: &[u8], way: u64, out: &mut [u8]) -> Answer
-    ensures { λ r. ⌜ Given (expandKeyCall (now (key .entry)) way (now (out .entry))) (now (out .entry)) r (now (out .exit)) ⌝ }
+// Checks 1 and 2, with which every call that takes a key begins. The count is that of the expanded key's words.
+fn check_key(key: &[u8], way: u64) -> Answer
+    ensures { λ r. ⌜ r ≡ keyAnswer (now (key .entry)) way ⌝ }
 {
     if !one_of(key.len() as u64, 16, 24, 32) {
         return Answer::Refused(1);
@@ -108,185 +64,130 @@ pub fn expand_key(key: &[u8], way: u64, out: &mut [u8]) -> Answer
     if !one_of(way, 1, 2, 3) {
         return Answer::Refused(2);
     }
-    let n = 24 + key.len();
-    let mut w = [0u32; 56];
-    expand_by(way, key, &mut w[..n], out)
+    Answer::Accepted(24 + key.len() as u64)
 }
 
-// The key expanded into w, and one block decrypted or encrypted.
-fn block_into(
+// Checks 3 and 4, and then one block decrypted or encrypted under expanded words.
+fn code_block(
     decrypting: bool,
     way: u64,
     words: &[[u32; 256]],
     bytes: &[[u8; 256]],
-    key: &[u8],
-    w: &mut [u32],
+    w: &[u32],
     block: &[u8],
     out: &mut [u8],
-)
+) -> Answer
     requires { ⌜ Lent way (now words) (now bytes) ⌝ }
-    requires { ⌜ KeyLength (length (now key)) ⌝ }
-    requires { ⌜ length (now w) ≡ byKeyLength (length (now key)) 40 48 56 ⌝ }
-    requires { ⌜ (length (now block) ≡ 16) × (length (now out) ≡ 16) ⌝ }
-    ensures { λ r. ⌜ now (out .exit) ≡ codedBlock decrypting (now (key .entry)) (now (block .entry)) ⌝ }
+    requires { ⌜ 4 ≤ length (now w) ⌝ }
+    ensures { λ r. ⌜ Given (blockUnder decrypting (now (w .entry)) (now (block .entry)) (now (out .entry))) (now (out .entry)) r (now (out .exit)) ⌝ }
 {
-    schedule::expand_key(way, words, bytes, key, w);
-    if decrypting {
-        block::decrypt_block(way, words, bytes, w, block, out);
-        return;
-    }
-    block::encrypt_block(way, words, bytes, w, block, out);
-}
-
-// The same with the tables that the way reads.
-fn block_by(decrypting: bool, way: u64, key: &[u8], w: &mut [u32], block: &[u8], out: &mut [u8])
-    requires { ⌜ KeyLength (length (now key)) ⌝ }
-    requires { ⌜ length (now w) ≡ byKeyLength (length (now key)) 40 48 56 ⌝ }
-    requires { ⌜ (length (now block) ≡ 16) × (length (now out) ≡ 16) ⌝ }
-    ensures { λ r. ⌜ now (out .exit) ≡ codedBlock decrypting (now (key .entry)) (now (block .entry)) ⌝ }
-{
-    if way == 2 {
-        block_into(
-            decrypting,
-            way,
-            &ffunction::tables::word_tables(),
-            &[[0u8; 256]; 2],
-            key,
-            w,
-            block,
-            out,
-        );
-        return;
-    }
-    block_into(
-        decrypting,
-        way,
-        &[[0u32; 256]; 8],
-        &sbox::tables::byte_tables(),
-        key,
-        w,
-        block,
-        out,
-    );
-}
-
-// Both block calls, whose checks are the same.
-fn block_call(decrypting: bool, key: &[u8], way: u64, block: &[u8], out: &mut [u8]) -> Answer
-    ensures { λ r. ⌜ Given (blockCall decrypting (now (key .entry)) way (now (block .entry)) (now (out .entry))) (now (out .entry)) r (now (out .exit)) ⌝ }
-{
-    if !one_of(key.len() as u64, 16, 24, 32) {
-        return Answer::Refused(1);
-    }
-    if !one_of(way, 1, 2, 3) {
-        return Answer::Refused(2);
-    }
     if block.len() != 16 {
         return Answer::Refused(3);
     }
     if out.len() != 16 {
         return Answer::Refused(4);
     }
-    let n = 24 + key.len();
-    let mut w = [0u32; 56];
-    block_by(decrypting, way, key, &mut w[..n], block, out);
+    if decrypting {
+        block::decrypt_block(way, words, bytes, w, block, out);
+        return Answer::Accepted(1);
+    }
+    block::encrypt_block(way, words, bytes, w, block, out);
     Answer::Accepted(1)
 }
 
-pub fn encrypt_block(key: &[u8], way: u64, block: &[u8], out: &mut [u8]) -> Answer
-    ensures { λ r. ⌜ Given (encryptBlockCall (now (key .entry)) way (now (block .entry)) (now (out .entry))) (now (out .entry)) r (now (out .exit)) ⌝ }
-{
-    block_call(false, key, way, block, out)
+// What a call does with its key once checks 1 and 2 are passed.
+pub enum Task {
+    ExpandKey,
+    EncryptBlock,
+    DecryptBlock,
+    EncryptBook,
+    DecryptBook,
 }
 
-pub fn decrypt_block(key: &[u8], way: u64, block: &[u8], out: &mut [u8]) -> Answer
-    ensures { λ r. ⌜ Given (decryptBlockCall (now (key .entry)) way (now (block .entry)) (now (out .entry))) (now (out .entry)) r (now (out .exit)) ⌝ }
-{
-    block_call(true, key, way, block, out)
-}
-
-// The key expanded into w, and the book decrypted or encrypted; checks 4 to 11 are made below.
-fn book_into(
-    decrypting: bool,
+// The key expanded into w, and the task done under it.
+fn perform(
+    task: Task,
     way: u64,
     words: &[[u32; 256]],
     bytes: &[[u8; 256]],
     key: &[u8],
     w: &mut [u32],
-    book: &[u8],
+    src: &[u8],
     out: &mut [u8],
 ) -> Answer
     requires { ⌜ Lent way (now words) (now bytes) ⌝ }
     requires { ⌜ KeyLength (length (now key)) ⌝ }
     requires { ⌜ length (now w) ≡ byKeyLength (length (now key)) 40 48 56 ⌝ }
-    ensures { λ r. ⌜ Given (bookUnder decrypting (now (key .entry)) (now (book .entry)) (now (out .entry))) (now (out .entry)) r (now (out .exit)) ⌝ }
+    ensures { λ r. ⌜ Given (performed task (now (key .entry)) (now (src .entry)) (now (out .entry))) (now (out .entry)) r (now (out .exit)) ⌝ }
 {
     schedule::expand_key(way, words, bytes, key, w);
-    if decrypting {
-        return book::decrypt_book(way, words, bytes, w, book, out);
+    match task {
+        Task::ExpandKey => write_words(w, out),
+        Task::EncryptBlock => code_block(false, way, words, bytes, w, src, out),
+        Task::DecryptBlock => code_block(true, way, words, bytes, w, src, out),
+        Task::EncryptBook => book::encrypt_book(way, words, bytes, w, src, out),
+        Task::DecryptBook => book::decrypt_book(way, words, bytes, w, src, out),
     }
-    book::encrypt_book(way, words, bytes, w, book, out)
 }
 
-// The same with the tables that the way reads.
-fn book_by(
-    decrypting: bool,
+// The same with the tables that the way reads, each fetched where it is lent: a table costs a copy. In place of the others nothing is lent.
+fn perform_by(
+    task: Task,
     way: u64,
     key: &[u8],
     w: &mut [u32],
-    book: &[u8],
+    src: &[u8],
     out: &mut [u8],
 ) -> Answer
     requires { ⌜ KeyLength (length (now key)) ⌝ }
     requires { ⌜ length (now w) ≡ byKeyLength (length (now key)) 40 48 56 ⌝ }
-    ensures { λ r. ⌜ Given (bookUnder decrypting (now (key .entry)) (now (book .entry)) (now (out .entry))) (now (out .entry)) r (now (out .exit)) ⌝ }
+    ensures { λ r. ⌜ Given (performed task (now (key .entry)) (now (src .entry)) (now (out .entry))) (now (out .entry)) r (now (out .exit)) ⌝ }
 {
     if way == 2 {
-        return book_into(
-            decrypting,
-            way,
-            &ffunction::tables::word_tables(),
-            &[[0u8; 256]; 2],
-            key,
-            w,
-            book,
-            out,
-        );
+        return perform(task, way, &word_tables::all(), &[], key, w, src, out);
     }
-    book_into(
-        decrypting,
-        way,
-        &[[0u32; 256]; 8],
-        &sbox::tables::byte_tables(),
-        key,
-        w,
-        book,
-        out,
-    )
+    perform(task, way, &[], &sbox::tables::byte_tables(), key, w, src, out)
 }
 
-// Both book calls, whose checks 1 and 2 are the same.
-fn book_call(decrypting: bool, key: &[u8], way: u64, book: &[u8], out: &mut [u8]) -> Answer
-    ensures { λ r. ⌜ Given (bookCall decrypting (now (key .entry)) way (now (book .entry)) (now (out .entry))) (now (out .entry)) r (now (out .exit)) ⌝ }
+// Every call that takes a key: checks 1 and 2, and then its task.
+fn keyed_call(task: Task, key: &[u8], way: u64, src: &[u8], out: &mut [u8]) -> Answer
+    ensures { λ r. ⌜ Given (keyedCall task (now (key .entry)) way (now (src .entry)) (now (out .entry))) (now (out .entry)) r (now (out .exit)) ⌝ }
 {
-    if !one_of(key.len() as u64, 16, 24, 32) {
-        return Answer::Refused(1);
-    }
-    if !one_of(way, 1, 2, 3) {
-        return Answer::Refused(2);
-    }
-    let n = 24 + key.len();
+    let checked = check_key(key, way);
+    let Answer::Accepted(count) = checked else {
+        return checked;
+    };
+    let n = count as usize;
     let mut w = [0u32; 56];
-    book_by(decrypting, way, key, &mut w[..n], book, out)
+    perform_by(task, way, key, &mut w[..n], src, out)
+}
+
+pub fn expand_key(key: &[u8], way: u64, out: &mut [u8]) -> Answer
+    ensures { λ r. ⌜ Given (expandKeyCall (now (key .entry)) way (now (out .entry))) (now (out .entry)) r (now (out .exit)) ⌝ }
+{
+    keyed_call(Task::ExpandKey, key, way, &[], out)
+}
+
+pub fn encrypt_block(key: &[u8], way: u64, block: &[u8], out: &mut [u8]) -> Answer
+    ensures { λ r. ⌜ Given (encryptBlockCall (now (key .entry)) way (now (block .entry)) (now (out .entry))) (now (out .entry)) r (now (out .exit)) ⌝ }
+{
+    keyed_call(Task::EncryptBlock, key, way, block, out)
+}
+
+pub fn decrypt_block(key: &[u8], way: u64, block: &[u8], out: &mut [u8]) -> Answer
+    ensures { λ r. ⌜ Given (decryptBlockCall (now (key .entry)) way (now (block .entry)) (now (out .entry))) (now (out .entry)) r (now (out .exit)) ⌝ }
+{
+    keyed_call(Task::DecryptBlock, key, way, block, out)
 }
 
 pub fn encrypt_book(key: &[u8], way: u64, book: &[u8], out: &mut [u8]) -> Answer
     ensures { λ r. ⌜ Given (encryptBookCall (now (key .entry)) way (now (book .entry)) (now (out .entry))) (now (out .entry)) r (now (out .exit)) ⌝ }
 {
-    book_call(false, key, way, book, out)
+    keyed_call(Task::EncryptBook, key, way, book, out)
 }
 
 pub fn decrypt_book(key: &[u8], way: u64, book: &[u8], out: &mut [u8]) -> Answer
     ensures { λ r. ⌜ Given (decryptBookCall (now (key .entry)) way (now (book .entry)) (now (out .entry))) (now (out .entry)) r (now (out .exit)) ⌝ }
 {
-    book_call(true, key, way, book, out)
+    keyed_call(Task::DecryptBook, key, way, book, out)
 }

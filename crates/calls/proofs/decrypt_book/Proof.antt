@@ -1,17 +1,18 @@
--- `calls::decrypt_book` meets its contract: it is the book call this way round.
+-- `calls::decrypt_book` meets its contract: it is the keyed call with its task.
 use borrow.Author.Needs.{needs}
-use Rattle.calls.specs.CallLaws.{given-same, decrypt-book-call}
+use Rattle.calls.specs.Tasks.{decrypt-book-keyed}
+use Rattle.calls.specs.CallLaws.{given-same}
 use Rattle.calls.proofs.decrypt_book.Statement.{statement}
 use Rattle.calls.proofs.decrypt_book.Tie as tie
 
-book-call-requires : tie.Need-book-call-requires
-book-call-requires c κs = search needs
+keyed-call-requires : tie.Need-keyed-call-requires
+keyed-call-requires c κs = search needs
 
 same-length : tie.Need-same-length
 same-length c = search needs
 
 returns : tie.Need-returns
-returns c = given-same (decrypt-book-call _ _ _ _) (c .before .before .book-call .ensures)
+returns c = given-same (decrypt-book-keyed _ _ _ _) (c .before .before .keyed-call .ensures)
 
 pub decrypt-book-spec : {M : Type 1} → statement M
-decrypt-book-spec = tie.close (tie.spec book-call-requires same-length returns)
+decrypt-book-spec = tie.close (tie.spec keyed-call-requires same-length returns)

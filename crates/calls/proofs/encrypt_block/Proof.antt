@@ -1,17 +1,18 @@
--- `calls::encrypt_block` meets its contract: it is the block call this way round.
+-- `calls::encrypt_block` meets its contract: it is the keyed call with its task.
 use borrow.Author.Needs.{needs}
-use Rattle.calls.specs.CallLaws.{given-same, encrypt-call}
+use Rattle.calls.specs.Tasks.{encrypt-block-keyed}
+use Rattle.calls.specs.CallLaws.{given-same}
 use Rattle.calls.proofs.encrypt_block.Statement.{statement}
 use Rattle.calls.proofs.encrypt_block.Tie as tie
 
-block-call-requires : tie.Need-block-call-requires
-block-call-requires c κs = search needs
+keyed-call-requires : tie.Need-keyed-call-requires
+keyed-call-requires c κs = search needs
 
 same-length : tie.Need-same-length
 same-length c = search needs
 
 returns : tie.Need-returns
-returns c = given-same (encrypt-call _ _ _ _) (c .before .before .block-call .ensures)
+returns c = given-same (encrypt-block-keyed _ _ _ _) (c .before .before .keyed-call .ensures)
 
 pub encrypt-block-spec : {M : Type 1} → statement M
-encrypt-block-spec = tie.close (tie.spec block-call-requires same-length returns)
+encrypt-block-spec = tie.close (tie.spec keyed-call-requires same-length returns)

@@ -1,17 +1,18 @@
--- `calls::encrypt_book` meets its contract: it is the book call this way round.
+-- `calls::encrypt_book` meets its contract: it is the keyed call with its task.
 use borrow.Author.Needs.{needs}
-use Rattle.calls.specs.CallLaws.{given-same, encrypt-book-call}
+use Rattle.calls.specs.Tasks.{encrypt-book-keyed}
+use Rattle.calls.specs.CallLaws.{given-same}
 use Rattle.calls.proofs.encrypt_book.Statement.{statement}
 use Rattle.calls.proofs.encrypt_book.Tie as tie
 
-book-call-requires : tie.Need-book-call-requires
-book-call-requires c κs = search needs
+keyed-call-requires : tie.Need-keyed-call-requires
+keyed-call-requires c κs = search needs
 
 same-length : tie.Need-same-length
 same-length c = search needs
 
 returns : tie.Need-returns
-returns c = given-same (encrypt-book-call _ _ _ _) (c .before .before .book-call .ensures)
+returns c = given-same (encrypt-book-keyed _ _ _ _) (c .before .before .keyed-call .ensures)
 
 pub encrypt-book-spec : {M : Type 1} → statement M
-encrypt-book-spec = tie.close (tie.spec book-call-requires same-length returns)
+encrypt-book-spec = tie.close (tie.spec keyed-call-requires same-length returns)

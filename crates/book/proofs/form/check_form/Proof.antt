@@ -2,7 +2,7 @@
 use mathlib.Core.Path.{sym, _∙_}
 use lib.ListN.{take}
 use Rattle.planbook_spec.specs.Book.{sheetCount, formChecks}
-use Rattle.book.specs.Judging.{went}
+use Rattle.answer.specs.Judging.{went}
 use Rattle.book.specs.FormLaws.{head-given, form-stopped, form-passed}
 use borrow.Author.Needs.{needs}
 use Rattle.book.proofs.form.check_form.Statement.{statement}

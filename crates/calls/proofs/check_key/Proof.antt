@@ -1,0 +1,44 @@
+-- `calls::check_key` meets its contract: check 1, and then check 2.
+use mathlib.Core.Path.{sym, ap, _∙_}
+use borrow.Author.Needs.{needs}
+use Rattle.answer.specs.Answer.{answerOf}
+use Rattle.answer.specs.declared.Answer.the-variants.{Accepted}
+use Rattle.planbook_spec.specs.OutcomeLaws.{judged-true, judged-false}
+use Rattle.planbook_spec.specs.Checks.{keyCheck, wayCheck}
+use Rattle.calls.specs.CallLaws.{no-checks, failed, passed, expanded-size}
+use Rattle.calls.proofs.check_key.Statement.{statement}
+use Rattle.calls.proofs.check_key.Tie as tie
+
+one-of-requires : tie.Need-one-of-requires
+one-of-requires c κs = search needs
+
+returns : tie.Need-returns
+unfolding keyCheck
+returns c = sym (ap answerOf (judged-false (failed (c .before .one-of .ensures) (c .if1 .taken)) 1 _ _))
+
+one-of-requires-2 : tie.Need-one-of-requires-2
+one-of-requires-2 c κs = search needs
+
+returns-2 : tie.Need-returns-2
+unfolding keyCheck wayCheck
+returns-2 c =
+    let e : tie.Else1 = c .before .before in
+    sym
+    (ap answerOf
+    (judged-true (passed (e .before .one-of .ensures) (e .if1 .left)) 1 _ _
+    ∙ judged-false (failed (c .before .one-of2 .ensures) (c .if2 .taken)) 2 _ _))
+
+add-t7 : tie.Need-add-t7
+add-t7 c = search needs
+
+returns-3 : tie.Need-returns-3
+unfolding keyCheck wayCheck
+returns-3 c =
+    let e : tie.Else1 = c .before .before in
+    let p = passed (e .before .one-of .ensures) (e .if1 .left) in
+    ap Accepted (expanded-size _ p)
+    ∙ sym (ap answerOf (judged-true p 1 _ _ ∙ judged-true (passed (c .before .one-of2 .ensures) (c .if2 .left)) 2 _ _ ∙ no-checks _))
+
+pub check-key-spec : {M : Type 1} → statement M
+check-key-spec =
+    tie.close (tie.spec one-of-requires returns one-of-requires-2 returns-2 add-t7 returns-3)

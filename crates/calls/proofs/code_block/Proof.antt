@@ -1,0 +1,61 @@
+-- `calls::code_block` meets its contract: checks 3 and 4 peeled off, and then the block.
+use mathlib.Core.Path.{_∙_}
+use borrow.Author.Tests.{eq-eqb, ne-eqb}
+use Rattle.planbook_spec.specs.OutcomeLaws.{judged-true, judged-false}
+use Rattle.planbook_spec.specs.Checks.{blockCheck, outputCheck}
+use Rattle.calls.specs.Tasks.{blockUnder}
+use Rattle.calls.specs.CallLaws.{given-refused, given-accepted, no-checks, decrypted, encrypted}
+use borrow.Author.Needs.{needs}
+use Rattle.calls.proofs.code_block.Statement.{statement}
+use Rattle.calls.proofs.code_block.Tie as tie
+
+returns : tie.Need-returns
+unfolding blockUnder blockCheck
+returns c = given-refused _ (judged-false (ne-eqb _ _ (c .if1 .taken)) 3 _ _)
+
+returns-2 : tie.Need-returns-2
+unfolding blockUnder blockCheck outputCheck
+returns-2 c = given-refused _ (judged-true (eq-eqb _ _ (c .before .if1 .left)) 3 _ _ ∙ judged-false (ne-eqb _ _ (c .if2 .taken)) 4 _ _)
+
+decrypt-block-requires : tie.Need-decrypt-block-requires
+decrypt-block-requires c κs = search needs
+
+same-length : tie.Need-same-length
+same-length c = search needs
+
+returns-3 : tie.Need-returns-3
+unfolding blockUnder blockCheck outputCheck
+returns-3 c =
+    let b : tie.After-decrypt-block = c .before .before in
+    let t : tie.Then3 = b .before .before in
+    given-accepted _ _
+    (judged-true (eq-eqb _ _ (t .before .before .if1 .left)) 3 _ _ ∙ judged-true (eq-eqb _ _ (t .before .if2 .left)) 4 _ _ ∙ no-checks _)
+    (decrypted _ _ (t .if3 .taken) (b .decrypt-block .ensures))
+
+encrypt-block-requires : tie.Need-encrypt-block-requires
+encrypt-block-requires c κs = search needs
+
+same-length-2 : tie.Need-same-length-2
+same-length-2 c = search needs
+
+returns-4 : tie.Need-returns-4
+unfolding blockUnder blockCheck outputCheck
+returns-4 c =
+    let b : tie.After-encrypt-block = c .before .before in
+    let t : tie.Else3 = b .before .before in
+    given-accepted _ _
+    (judged-true (eq-eqb _ _ (t .before .before .if1 .left)) 3 _ _ ∙ judged-true (eq-eqb _ _ (t .before .if2 .left)) 4 _ _ ∙ no-checks _)
+    (encrypted _ _ (t .if3 .left) (b .encrypt-block .ensures))
+
+pub code-block-spec : {M : Type 1} → statement M
+code-block-spec =
+    tie.close
+    (tie.spec
+    returns
+    returns-2
+    decrypt-block-requires
+    same-length
+    returns-3
+    encrypt-block-requires
+    same-length-2
+    returns-4)

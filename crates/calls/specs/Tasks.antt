@@ -1,0 +1,79 @@
+-- The calls that take a key, as one call with a task: what each task answers once checks 1 and 2 are passed.
+use Prim.Native.Nat.{ℕ, _*_}
+use mathlib.Core.Bool.{Bool, true, false}
+use mathlib.Core.List.{List, [], _∷_}
+use mathlib.Core.Path.{_≡_, refl}
+use lib.ListN.{length}
+use Rattle.clefia_spec.specs.Words.{bytesOf}
+use Rattle.clefia_spec.specs.KeySchedule.{expandKey}
+use Rattle.clefia_spec.specs.Block.{encryptUnder, decryptUnder, encrypt, decrypt}
+use Rattle.answer.specs.Answer.{answerOf}
+use Rattle.answer.specs.declared.Answer.{Answer}
+use Rattle.planbook_spec.specs.Outcome.{Outcome, accepted, judged}
+use Rattle.planbook_spec.specs.OutcomeLaws.{judged-append}
+use Rattle.planbook_spec.specs.Checks.{keyAndWay, blockCheck, outputCheck, expandedCount, expandKeyCall, blockChecks, encryptBlockCall, decryptBlockCall}
+use Rattle.planbook_spec.specs.Book.{bookChecks, encryptBookBy, decryptBookBy, encryptBookCall, decryptBookCall}
+use Rattle.calls.specs.declared.Task.{Task}
+use Rattle.calls.specs.declared.Task.the-variants.{ExpandKey, EncryptBlock, DecryptBlock, EncryptBook, DecryptBook}
+
+-- Checks 1 and 2; the count is that of the expanded key's words.
+abbrev pub keyAnswer : List ℕ → ℕ → Answer
+keyAnswer key way = answerOf (judged (keyAndWay key way) (accepted (expandedCount (length key)) []))
+
+-- One block decrypted (true) or encrypted (false) under expanded words.
+unfoldable pub codedUnder : Bool → List ℕ → List ℕ → List ℕ
+codedUnder true w block = decryptUnder w block
+codedUnder false w block = encryptUnder w block
+
+-- Checks 3 and 4, and then the block.
+unfoldable pub blockUnder : Bool → List ℕ → List ℕ → List ℕ → Outcome
+blockUnder d w block out = judged (blockCheck block ∷ outputCheck 16 out ∷ []) (accepted 1 (codedUnder d w block))
+
+unfoldable pub performed : Task → List ℕ → List ℕ → List ℕ → Outcome
+performed ExpandKey key src out =
+    judged (outputCheck (4 * expandedCount (length key)) out ∷ []) (accepted (expandedCount (length key)) (bytesOf (expandKey key)))
+performed EncryptBlock key src out = blockUnder false (expandKey key) src out
+performed DecryptBlock key src out = blockUnder true (expandKey key) src out
+performed EncryptBook key src out = encryptBookBy [] (encryptUnder (expandKey key)) src out
+performed DecryptBook key src out = decryptBookBy [] (decryptUnder (expandKey key)) src out
+
+unfoldable pub keyedCall : Task → List ℕ → ℕ → List ℕ → List ℕ → Outcome
+keyedCall task key way src out = judged (keyAndWay key way) (performed task key src out)
+
+-- The same under words w.
+unfoldable pub under : Task → List ℕ → List ℕ → List ℕ → Outcome
+under ExpandKey w src out = judged (outputCheck (4 * length w) out ∷ []) (accepted (length w) (bytesOf w))
+under EncryptBlock w src out = blockUnder false w src out
+under DecryptBlock w src out = blockUnder true w src out
+under EncryptBook w src out = encryptBookBy [] (encryptUnder w) src out
+under DecryptBook w src out = decryptBookBy [] (decryptUnder w) src out
+
+pub performed-under : (task : Task) {w : List ℕ} (key src out : List ℕ) → w ≡ expandKey key → length w ≡ expandedCount (length key)
+    → performed task key src out ≡ under task w src out
+unfolding performed under
+performed-under ExpandKey key src out e l = rw (← e, ← l)
+performed-under EncryptBlock key src out e l = rw (← e)
+performed-under DecryptBlock key src out e l = rw (← e)
+performed-under EncryptBook key src out e l = rw (← e)
+performed-under DecryptBook key src out e l = rw (← e)
+
+-- Each call is the one with its task.
+pub expand-key-keyed : (key : List ℕ) (way : ℕ) (out : List ℕ) → expandKeyCall key way out ≡ keyedCall ExpandKey key way [] out
+unfolding expandKeyCall keyedCall performed
+expand-key-keyed key way out = judged-append (keyAndWay key way) _ _
+
+pub encrypt-block-keyed : (key : List ℕ) (way : ℕ) (block out : List ℕ) → encryptBlockCall key way block out ≡ keyedCall EncryptBlock key way block out
+unfolding encryptBlockCall blockChecks encrypt keyedCall performed blockUnder codedUnder
+encrypt-block-keyed key way block out = judged-append (keyAndWay key way) _ _
+
+pub decrypt-block-keyed : (key : List ℕ) (way : ℕ) (block out : List ℕ) → decryptBlockCall key way block out ≡ keyedCall DecryptBlock key way block out
+unfolding decryptBlockCall blockChecks decrypt keyedCall performed blockUnder codedUnder
+decrypt-block-keyed key way block out = judged-append (keyAndWay key way) _ _
+
+pub encrypt-book-keyed : (key : List ℕ) (way : ℕ) (book out : List ℕ) → encryptBookCall key way book out ≡ keyedCall EncryptBook key way book out
+unfolding encryptBookCall encrypt keyedCall performed encryptBookBy bookChecks
+encrypt-book-keyed key way book out = judged-append (keyAndWay key way) _ _
+
+pub decrypt-book-keyed : (key : List ℕ) (way : ℕ) (book out : List ℕ) → decryptBookCall key way book out ≡ keyedCall DecryptBook key way book out
+unfolding decryptBookCall decrypt keyedCall performed decryptBookBy bookChecks
+decrypt-book-keyed key way book out = judged-append (keyAndWay key way) _ _
