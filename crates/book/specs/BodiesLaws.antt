@@ -8,9 +8,9 @@ use borrow.Rule.Slice.PartMut.{putMid}
 use lib.ListN.{length, take, drop}
 use Rattle.planbook_spec.specs.Book.{count, pieces, sheetHolds, sheetCount, contents, bodies, recordCount, sheetsHold, eachBody}
 use Rattle.planbook_spec.specs.WalkLaws.{count-next, count-done, body-next, sheet-next, sheet-broken, bodies-done, sheets-done, bodies-at}
+use Rattle.form.specs.FormLaws.{Formed}
+use Rattle.sheet.specs.ChainLaws.{fill-part, length-part, filled}
 use Rattle.book.specs.Bodies.{entryAt}
-use Rattle.book.specs.FormLaws.{Formed}
-use Rattle.book.specs.ChainLaws.{fill-part, length-part, filled}
 
 pub record Placed (book : List ℕ) (from at left : ℕ) : Type 0 where
   pub place : from + 24 * left ≡ 4 + 24 * sheetCount book

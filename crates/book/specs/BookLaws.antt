@@ -13,10 +13,10 @@ use Rattle.planbook_spec.specs.Outcome.{Outcome, refused, accepted, after, judg
 use Rattle.planbook_spec.specs.Checks.{outputCheck}
 use Rattle.planbook_spec.specs.Book.{sheetCount, contents, bodies, recordCount, formChecks, eachBody, sheetsHold, recordsCheck, recoded, bookChecks}
 use Rattle.planbook_spec.specs.WalkLaws.{recoded-front, bodies-at}
-use Rattle.book.specs.Bodies.{clearBody, recodedBody, recodedBook}
-use Rattle.book.specs.Form.{formAnswer}
-use Rattle.book.specs.FormLaws.{Formed, formed}
+use Rattle.form.specs.Form.{formAnswer}
+use Rattle.form.specs.FormLaws.{Formed, formed}
 use Rattle.answer.specs.Judging.{stopped-first, passed-first, Went, went}
+use Rattle.book.specs.Bodies.{clearBody, recodedBody, recodedBook}
 
 -- The front and the bodies are the book.
 pub recoded-whole : (mark : ℕ) (f : List ℕ → List ℕ → List ℕ) {book : List ℕ} {front : List ℕ} → Formed book → front ≡ set (take (4 + 24 * sheetCount book) book) 0 mark

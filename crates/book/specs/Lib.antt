@@ -1,12 +1,3 @@
-pub mod Entry
-pub mod Exchange
-pub mod Form
-pub mod Tests
-pub mod Walks
-pub mod FormLaws
-pub mod Blocks
-pub mod Chain
-pub mod ChainLaws
 pub mod Bodies
 pub mod BodiesLaws
 pub mod BookLaws

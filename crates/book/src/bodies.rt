@@ -5,11 +5,11 @@ ghost use Prim.Native.Nat.{_+_, _*_, _≤_};
 ghost use lib.ListN.{length, take};
 ghost use Rattle.planbook_spec.specs.Book.{count, sheetCount, contents, bodies, eachBody};
 ghost use Rattle.ffunction.specs.Tables.{Lent};
+ghost use Rattle.form.specs.FormLaws.{Formed};
 ghost use Rattle.book.specs.Bodies.{entryAt, recodedBody};
-ghost use Rattle.book.specs.FormLaws.{Formed};
-use super::decrypt;
-use super::encrypt;
-use super::entry;
+use form::entry;
+use sheet::decrypt;
+use sheet::encrypt;
 
 // Where the body ends that stands at `at`, and whose entry stands at `from`.
 pub fn body_end(book: &[u8], from: usize, at: usize) -> usize

@@ -3,7 +3,7 @@ ghost use mathlib.Core.Path.{_≡_};
 ghost use Prim.Native.Nat.{_+_, _*_, _≤_};
 ghost use lib.ListN.{length, take, set};
 ghost use Rattle.planbook_spec.specs.Book.{sheetCount};
-use super::entry;
+use form::entry;
 
 pub fn copy_front(mark: u8, book: &[u8], out: &mut [u8])
     requires { ⌜ (4 + 24 * sheetCount (now book) ≤ length (now book)) × (length (now out) ≡ length (now book)) ⌝ }

@@ -1,14 +1,7 @@
 // Plan books encrypted and decrypted under expanded words, a way and lent tables; never under a key.
 // (Document 01's terms are sealing and opening a book; a clear book has the first byte 1, and an encrypted one 2.)
-pub mod blocks;
 pub mod bodies;
-pub mod chain;
-pub mod decrypt;
-pub mod encrypt;
-pub mod entry;
-pub mod form;
 pub mod front;
-pub mod record;
 pub mod records;
 
 ghost use mathlib.Core.Path.{_≡_};
@@ -19,8 +12,8 @@ ghost use Rattle.clefia_spec.specs.Block.{encryptUnder, decryptUnder};
 ghost use Rattle.planbook_spec.specs.Book.{recoded, encryptBookBy, decryptBookBy};
 ghost use Rattle.answer.specs.Answer.{Given};
 ghost use Rattle.ffunction.specs.Tables.{Lent};
+ghost use Rattle.form.specs.FormLaws.{Formed};
 ghost use Rattle.book.specs.Bodies.{recodedBody, recodedBook};
-ghost use Rattle.book.specs.FormLaws.{Formed};
 use answer::Answer;
 
 // The other book, with the first byte `to`.

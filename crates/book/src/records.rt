@@ -4,12 +4,12 @@ ghost use Prim.Native.Nat.{_*_, _≤_};
 ghost use lib.ListN.{length};
 ghost use Rattle.planbook_spec.specs.Book.{count, sheetHolds, contents, bodies, sheetsHold};
 ghost use Rattle.ffunction.specs.Tables.{Lent};
+ghost use Rattle.form.specs.FormLaws.{Formed};
 ghost use Rattle.book.specs.Bodies.{clearBody};
-ghost use Rattle.book.specs.FormLaws.{Formed};
 use super::bodies;
-use super::decrypt;
-use super::entry;
-use super::record;
+use form::entry;
+use form::record;
+use sheet::decrypt;
 
 pub fn sheet_holds(
     mark: u8,

@@ -2,7 +2,7 @@
 use mathlib.Core.Path.{_≡_, sym, _∙_}
 use borrow.Author.Tests.{not-true, not-false}
 use Rattle.answer.specs.declared.Answer.the-variants.{Accepted}
-use Rattle.book.specs.Form.{formAnswer}
+use Rattle.form.specs.Form.{formAnswer}
 use Rattle.book.specs.BookLaws.{form-given, wrong-output, wrong-form, wrong-records, right-book}
 use borrow.Author.Needs.{needs}
 use Rattle.book.proofs.recode_book.Statement.{statement}

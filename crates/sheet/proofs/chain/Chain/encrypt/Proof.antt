@@ -1,0 +1,16 @@
+-- `sheet::chain::Chain::encrypt` meets its contract.
+use borrow.Author.Needs.{needs}
+use Rattle.sheet.proofs.chain.Chain.encrypt.Statement.{statement}
+use Rattle.sheet.proofs.chain.Chain.encrypt.Tie as tie
+
+xors4-requires : tie.Need-xors4-requires
+xors4-requires c κs = search needs
+
+encrypt-words-requires : tie.Need-encrypt-words-requires
+encrypt-words-requires c κs = search needs
+
+returns : tie.Need-returns
+returns c = cc
+
+pub encrypt-spec : {M : Type 1} → statement M
+encrypt-spec = tie.close (tie.spec xors4-requires encrypt-words-requires returns)

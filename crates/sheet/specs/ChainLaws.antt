@@ -1,0 +1,210 @@
+-- Laws of chains: what a step on words is on bytes, and stretches of an output that are filled one after the other.
+use Prim.Native.Nat.{ℕ, zero, suc, _+_, _-_, _*_, _^_, _≤_, _<_}
+use mathlib.Core.Path.{_≡_, sym, ap, ap₂, _∙_}
+use mathlib.Core.Bool.{true, false, _&&_}
+use mathlib.Core.List.{List, [], _∷_, _++_, append-assoc, append-nil}
+use native.Mathlib.Omega.{arith}
+use borrow.Rule.Slice.PartMut.{putMid, same-len-mid, mid-len}
+use lib.Dec.{lit<}
+use lib.ListN.{length, take, drop, length-append, length-drop}
+use lib.Seq.{length-take-le, take-all, take-at, drop-at}
+use Rattle.clefia_spec.specs.Words.{bytesOf, wordsOf, xors, Below}
+use Rattle.clefia_spec.specs.DigitLaws.{below-take, below-drop, below-xors, length-xors, length-numbersOf, length-digitsOf, below-numbersOf, below-digitsOf, numbersOf-xors, digitsOf-xors}
+use Rattle.clefia_spec.specs.KeyLaws.{Row}
+use Rattle.clefia_spec.specs.Block.{encryptWords, decryptWords, encryptUnder, decryptUnder}
+use Rattle.clefia_spec.specs.BlockLaws.{block-words, row-encryptWords, row-decryptWords}
+use Rattle.planbook_spec.specs.Book.{count, iv, pieces, recordHolds, allRecordsHold, sheetHolds, cbcEncrypt, cbcDecrypt, decryptBody}
+use Rattle.planbook_spec.specs.WalkLaws.{encrypt-next, decrypt-next}
+use Rattle.form.specs.Blocks.{block-at, words-at}
+
+-- ---- rows of four words and their bytes
+
+pub row-at : (bs : List ℕ) → Below 256 bs → Row 4 (wordsOf 4 bs)
+row-at bs r = record { long = length-numbersOf 256 4 4 bs; below = below-numbersOf (lit< tt) 4 4 r }
+
+pub length-bytes : {s : List ℕ} → Row 4 s → length (bytesOf s) ≡ 16
+length-bytes {s} h = length-digitsOf 256 4 s ∙ ap (λ (n : ℕ). n * 4) (h .long)
+
+row-xors : {p q : List ℕ} → Row 4 p → Row 4 q → Row 4 (xors p q)
+row-xors {p} {q} h k = record { long = length-xors p q ∙ k .long; below = below-xors 32 (h .below) (k .below) }
+
+-- ---- one step, under words w; p went before, and bs begins with the block
+
+module _ {w p bs : List ℕ} (words : Below (2 ^ 32) w) (before : Row 4 p) (bytes : Below 256 bs) (long : 16 ≤ length bs) where
+  size : length (take 16 bs) ≡ 16
+  size = length-take-le 16 bs long
+
+  pub row-encrypted : Row 4 (encryptWords w (xors p (wordsOf 4 bs)))
+  row-encrypted = row-encryptWords words (row-xors before (row-at bs bytes))
+
+  pub encrypt-step : encryptUnder w (xors (bytesOf p) (take 16 bs)) ≡ bytesOf (encryptWords w (xors p (wordsOf 4 bs)))
+  unfolding encryptUnder
+  encrypt-step =
+      ap (λ (s : List ℕ). bytesOf (encryptWords w s))
+      (numbersOf-xors 8 4 4 (below-digitsOf (lit< tt) 4 p) (below-take 16 bytes) (length-bytes before ∙ sym size)
+      ∙ ap₂ xors (block-words before) (words-at bs long))
+
+  pub row-decrypted : Row 4 (xors p (decryptWords w (wordsOf 4 bs)))
+  row-decrypted = row-xors before (row-decryptWords words (row-at bs bytes))
+
+  pub decrypt-step : xors (bytesOf p) (decryptUnder w (take 16 bs)) ≡ bytesOf (xors p (decryptWords w (wordsOf 4 bs)))
+  unfolding decryptUnder
+  decrypt-step =
+      ap (λ (s : List ℕ). xors (bytesOf p) (bytesOf (decryptWords w s))) (words-at bs long)
+      ∙ sym (digitsOf-xors 8 4 p (decryptWords w (wordsOf 4 bs)) (before .long ∙ sym (row-decryptWords words (row-at bs bytes) .long)))
+
+-- ---- stretches of an output, filled one after the other
+
+-- A part has come back: what stands before its end.
+pub fill-part : (at n : ℕ) (out part rest : List ℕ) {whole : List ℕ} → length part ≡ n → at + n ≤ length out
+    → take at out ++ (part ++ rest) ≡ whole → take (at + n) (putMid at (at + n - at) out part) ++ rest ≡ whole
+fill-part at n out part rest {whole} l h e =
+    let front : length (take at out ++ part) ≡ at + n = length-append (take at out) part ∙ omega (arith, length-take-le at out (omega arith)) in
+    ap (λ (x : List ℕ). take (at + n) x ++ rest) (sym (append-assoc (take at out) part _))
+    ∙ ap (λ (x : List ℕ). x ++ rest) (take-at (take at out ++ part) _ (at + n) front)
+    ∙ append-assoc (take at out) part rest ∙ e
+
+pub length-part : (at n : ℕ) (out part : List ℕ) → length part ≡ n → at + n ≤ length out → length (putMid at (at + n - at) out part) ≡ length out
+length-part at n out part l h =
+    same-len-mid at (at + n - at) out part (l ∙ sym (mid-len at (at + n) out h ∙ omega arith))
+
+-- All has been filled.
+pub filled : (at : ℕ) (out : List ℕ) {whole : List ℕ} → length out ≤ at → take at out ++ [] ≡ whole → out ≡ whole
+filled at out h e = sym (take-all at out h) ∙ sym (append-nil (take at out)) ∙ e
+
+-- ---- the body of a sheet, block by block, by any chaining F: `left` blocks are to come, the first of them at `at`
+
+pub record Chained (F : ℕ → List ℕ → List ℕ → List ℕ) (entry body out : List ℕ) (at left : ℕ) (p : List ℕ) : Type 0 where
+  pub place : at + 16 * left ≡ 16 * count entry
+  pub row : Row 4 p
+  pub long : length out ≡ 16 * count entry
+  pub whole : take at out ++ F left (bytesOf p) (drop at body) ≡ F (count entry) (iv entry) body
+
+module _ (F : ℕ → List ℕ → List ℕ → List ℕ) {entry body out : List ℕ} where
+  pub chain-start : Below 256 entry → length entry ≡ 24 → length out ≡ 16 * count entry
+      → Chained F entry body out 0 (count entry) (wordsOf 4 (drop 8 entry))
+  chain-start b l m =
+      let k : 16 ≤ length (drop 8 entry) = rw length-drop (omega arith) in
+      record {
+        place = omega arith;
+        row = row-at (drop 8 entry) (below-drop 8 b);
+        long = m;
+        whole = ap (λ (x : List ℕ). F (count entry) x body) (block-at (drop 8 entry) (below-drop 8 b) k);
+      }
+
+  module _ {at left : ℕ} {p : List ℕ} (c : Chained F entry body out at left p) where
+    pub chain-step : {b q : List ℕ} → 0 < left → Row 4 b → Row 4 q
+        → F left (bytesOf p) (drop at body) ≡ bytesOf b ++ F (left - 1) (bytesOf q) (drop (at + 16) body)
+        → Chained F entry body (putMid at (at + 16 - at) out (bytesOf b)) (at + 16) (left - 1) q
+    chain-step {b} {q} h rb rq e =
+        let fits : at + 16 ≤ length out = omega (arith, c .place, c .long) in
+        record {
+          place = omega (arith, c .place);
+          row = rq;
+          long = length-part at 16 out (bytesOf b) (length-bytes rb) fits ∙ c .long;
+          whole = fill-part at 16 out (bytesOf b) _ (length-bytes rb) fits (rw e at (c .whole));
+        }
+
+    pub chain-end : left ≡ 0 → ((q bs : List ℕ) → F 0 q bs ≡ []) → out ≡ F (count entry) (iv entry) body
+    chain-end z nil = filled at out (omega (arith, c .place, c .long)) (rw (z, nil) at (c .whole))
+
+-- One turn of each chaining.
+module _ {w body p : List ℕ} (at : ℕ) {left : ℕ} (words : Below (2 ^ 32) w) (before : Row 4 p) (bytes : Below 256 body) (fits : at + 16 ≤ length body) (h : 0 < left) where
+  long : 16 ≤ length (drop at body)
+  long = rw length-drop (omega arith)
+
+  pub encrypt-turn : cbcEncrypt (encryptUnder w) left (bytesOf p) (drop at body)
+      ≡ bytesOf (encryptWords w (xors p (wordsOf 4 (drop at body))))
+      ++ cbcEncrypt (encryptUnder w) (left - 1) (bytesOf (encryptWords w (xors p (wordsOf 4 (drop at body))))) (drop (at + 16) body)
+  encrypt-turn =
+      encrypt-next (encryptUnder w) left at (bytesOf p) body h
+      ∙ ap (λ (x : List ℕ). x ++ cbcEncrypt (encryptUnder w) (left - 1) x (drop (at + 16) body)) (encrypt-step words before (below-drop at bytes) long)
+
+  pub decrypt-turn : cbcDecrypt (decryptUnder w) left (bytesOf p) (drop at body)
+      ≡ bytesOf (xors p (decryptWords w (wordsOf 4 (drop at body))))
+      ++ cbcDecrypt (decryptUnder w) (left - 1) (bytesOf (wordsOf 4 (drop at body))) (drop (at + 16) body)
+  decrypt-turn =
+      decrypt-next (decryptUnder w) left at (bytesOf p) body h
+      ∙ ap₂ (λ (x y : List ℕ). x ++ cbcDecrypt (decryptUnder w) (left - 1) y (drop (at + 16) body))
+      (decrypt-step words before (below-drop at bytes) long) (sym (block-at (drop at body) (below-drop at bytes) long))
+
+-- The same turns, as a loop makes them.
+module _ {w entry body out p : List ℕ} {at left : ℕ} (words : Below (2 ^ 32) w) (bytes : Below 256 body) (size : length body ≡ 16 * count entry) (h : 0 < left) where
+  pub encrypt-chained : Chained (cbcEncrypt (encryptUnder w)) entry body out at left p
+      → let q : List ℕ = encryptWords w (xors p (wordsOf 4 (drop at body))) in
+      Chained (cbcEncrypt (encryptUnder w)) entry body (putMid at (at + 16 - at) out (bytesOf q)) (at + 16) (left - 1) q
+  encrypt-chained c =
+      let f : at + 16 ≤ length body = omega (arith, c .place) in
+      let r : Row 4 (encryptWords w (xors p (wordsOf 4 (drop at body)))) = row-encrypted words (c .row) (below-drop at bytes) (rw length-drop (omega arith)) in
+      chain-step (cbcEncrypt (encryptUnder w)) c h r r (encrypt-turn at words (c .row) bytes f h)
+
+  pub decrypt-chained : Chained (cbcDecrypt (decryptUnder w)) entry body out at left p
+      → Chained (cbcDecrypt (decryptUnder w)) entry body (putMid at (at + 16 - at) out (bytesOf (xors p (decryptWords w (wordsOf 4 (drop at body)))))) (at + 16) (left - 1) (wordsOf 4 (drop at body))
+  decrypt-chained c =
+      let f : at + 16 ≤ length body = omega (arith, c .place) in
+      chain-step (cbcDecrypt (decryptUnder w)) c h
+      (row-decrypted words (c .row) (below-drop at bytes) (rw length-drop (omega arith)))
+      (row-at (drop at body) (below-drop at bytes))
+      (decrypt-turn at words (c .row) bytes f h)
+
+-- ---- the block that is read ahead: it begins at `end`, or is the first again where n, the number of those that follow, is 0
+
+pub ahead-fits : (n : ℕ) {end size from : ℕ} → end + 16 * n ≡ size → 16 ≤ size → (end < size → from ≡ end) → (size ≤ end → from ≡ 0) → from + 16 ≤ size
+ahead-fits zero {end} {size} {from} e h f g = let z : from ≡ 0 = g (omega arith) in omega arith
+ahead-fits (suc n) {end} {size} {from} e h f g = let z : from ≡ end = f (omega arith) in omega arith
+
+-- ---- a rule of the records, looked at as the chain is undone
+
+pub record Opened (w entry body : List ℕ) (at left : ℕ) (p : List ℕ) : Type 0 where
+  pub place : at + 16 * left ≡ 16 * count entry
+  pub row : Row 4 p
+  pub rest : allRecordsHold entry (pieces 16 left (cbcDecrypt (decryptUnder w) left (bytesOf p) (drop at body)))
+      ≡ sheetHolds entry (decryptBody (decryptUnder w) entry body)
+
+pieces-first : (n : ℕ) (b rest : List ℕ) → 0 < n → length b ≡ 16 → pieces 16 n (b ++ rest) ≡ b ∷ pieces 16 (n - 1) rest
+unfolding pieces
+pieces-first zero b rest h l = let z : ⊥ = omega arith in absurd z
+pieces-first (suc n) b rest h l =
+    let e : suc n - 1 ≡ n = omega arith in
+    rw (take-at b rest 16 l, drop-at b rest 16 l, e)
+
+pub opened-start : (w entry body : List ℕ) → Below 256 entry → length entry ≡ 24 → Opened w entry body 0 (count entry) (wordsOf 4 (drop 8 entry))
+unfolding decryptBody
+opened-start w entry body b l =
+    let k : 16 ≤ length (drop 8 entry) = rw length-drop (omega arith) in
+    record {
+      place = omega arith;
+      row = row-at (drop 8 entry) (below-drop 8 b);
+      rest = ap (λ (x : List ℕ). allRecordsHold entry (pieces 16 (count entry) (cbcDecrypt (decryptUnder w) (count entry) x body))) (block-at (drop 8 entry) (below-drop 8 b) k);
+    }
+
+module _ {w entry body p : List ℕ} {at left : ℕ} (o : Opened w entry body at left p) where
+  module _ (words : Below (2 ^ 32) w) (bytes : Below 256 body) (size : length body ≡ 16 * count entry) (h : 0 < left) where
+    abbrev clear : List ℕ
+    clear = xors p (decryptWords w (wordsOf 4 (drop at body)))
+
+    fits : at + 16 ≤ length body
+    fits = omega (arith, o .place)
+
+    enough : 16 ≤ length (drop at body)
+    enough = rw length-drop (omega (arith, fits))
+
+    row-clear : Row 4 clear
+    row-clear = row-decrypted words (o .row) (below-drop at bytes) enough
+
+    peeled : (recordHolds entry (bytesOf clear) && allRecordsHold entry (pieces 16 (left - 1) (cbcDecrypt (decryptUnder w) (left - 1) (bytesOf (wordsOf 4 (drop at body))) (drop (at + 16) body))))
+        ≡ sheetHolds entry (decryptBody (decryptUnder w) entry body)
+    unfolding allRecordsHold
+    peeled =
+        rw (decrypt-turn at words (o .row) bytes fits h, pieces-first left (bytesOf clear) (cbcDecrypt (decryptUnder w) (left - 1) (bytesOf (wordsOf 4 (drop at body))) (drop (at + 16) body)) h (length-bytes row-clear)) at (o .rest)
+
+    pub opened-broken : recordHolds entry (bytesOf clear) ≡ false → false ≡ sheetHolds entry (decryptBody (decryptUnder w) entry body)
+    opened-broken e = rw e at peeled
+
+    pub opened-step : recordHolds entry (bytesOf clear) ≡ true → Opened w entry body (at + 16) (left - 1) (wordsOf 4 (drop at body))
+    opened-step e =
+        record { place = omega (arith, o .place); row = row-at (drop at body) (below-drop at bytes); rest = rw e at peeled }
+
+  pub opened-end : left ≡ 0 → true ≡ sheetHolds entry (decryptBody (decryptUnder w) entry body)
+  unfolding allRecordsHold pieces
+  opened-end z = rw z at (o .rest)

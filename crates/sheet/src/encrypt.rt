@@ -1,0 +1,45 @@
+// The body of one sheet, encrypted block by block. `entry` is the sheet's entry.
+ghost use mathlib.Core.Path.{_≡_};
+ghost use Prim.Native.Nat.{_*_, _≤_};
+ghost use lib.ListN.{length};
+ghost use Rattle.clefia_spec.specs.Block.{encryptUnder};
+ghost use Rattle.planbook_spec.specs.Book.{count, encryptBody};
+ghost use Rattle.ffunction.specs.Tables.{Lent};
+use super::blocks;
+use super::chain::Chain;
+use form::entry;
+
+pub fn encrypt_sheet(
+    way: u64,
+    words: &[[u32; 256]],
+    bytes: &[[u8; 256]],
+    w: &[u32],
+    entry: &[u8],
+    body: &[u8],
+    out: &mut [u8],
+)
+    requires { ⌜ Lent way (now words) (now bytes) ⌝ }
+    requires { ⌜ (4 ≤ length (now w)) × (length (now entry) ≡ 24) ⌝ }
+    requires { ⌜ (length (now body) ≡ 16 * count (now entry)) × (length (now out) ≡ 16 * count (now entry)) ⌝ }
+    ensures { λ r. ⌜ now (out .exit) ≡ encryptBody (encryptUnder (now (w .entry))) (now (entry .entry)) (now (body .entry)) ⌝ }
+{
+    let mut left = entry::half(entry, 4);
+    if left == 0 {
+        return;
+    }
+    let mut chain = Chain::new(entry);
+    let mut block = rows::load(body, 0);
+    let mut at = 0;
+    while 0 < left {
+        let end = at + 16;
+        let step = chain.encrypt(way, words, bytes, w, block);
+        let written = step.block;
+        let from = blocks::following(end, body.len());
+        let read = blocks::exchange(&mut out[at..end], written, body, from);
+        block = read;
+        let next = step.next;
+        chain = next;
+        left -= 1;
+        at = end;
+    }
+}
