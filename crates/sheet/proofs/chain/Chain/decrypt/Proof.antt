@@ -10,7 +10,7 @@ xors4-requires : tie.Need-xors4-requires
 xors4-requires c κs = search needs
 
 returns : tie.Need-returns
-returns c = cc
+returns c = rw (c .xors4 .ensures, c .before .decrypt-words .ensures)
 
 pub decrypt-spec : {M : Type 1} → statement M
 decrypt-spec = tie.close (tie.spec decrypt-words-requires xors4-requires returns)

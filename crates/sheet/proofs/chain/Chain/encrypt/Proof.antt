@@ -10,7 +10,7 @@ encrypt-words-requires : tie.Need-encrypt-words-requires
 encrypt-words-requires c κs = search needs
 
 returns : tie.Need-returns
-returns c = cc
+returns c = rw (c .encrypt-words .ensures, c .before .xors4 .ensures)
 
 pub encrypt-spec : {M : Type 1} → statement M
 encrypt-spec = tie.close (tie.spec xors4-requires encrypt-words-requires returns)
