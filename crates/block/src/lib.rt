@@ -19,64 +19,50 @@ fn round_count(w: &[u32]) -> usize
     (w.len() - 4) / 2
 }
 
-pub fn encrypt_words(
-    way: u64,
-    words: &[[u32; 256]],
-    bytes: &[[u8; 256]],
-    w: &[u32],
-    s: [u32; 4],
-) -> [u32; 4]
-    requires { ⌜ Lent way (now words) (now bytes) ⌝ }
+pub fn encrypt_words(words: &[[u32; 256]], bytes: &[[u8; 256]], w: &[u32], s: [u32; 4]) -> [u32; 4]
+    requires { ⌜ Lent (now words) (now bytes) ⌝ }
     requires { ⌜ 4 ≤ length (now w) ⌝ }
     ensures { λ r. ⌜ r ≡ encryptWords (now (w .entry)) s ⌝ }
 {
     let n = round_count(w);
-    let t = network::network4(way, words, bytes, w, n, 4, whiten(w[0], w[1], s));
+    let t = network::network4(words, bytes, w, n, 4, whiten(w[0], w[1], s));
     whiten(w[2], w[3], t)
 }
 
-pub fn decrypt_words(
-    way: u64,
-    words: &[[u32; 256]],
-    bytes: &[[u8; 256]],
-    w: &[u32],
-    s: [u32; 4],
-) -> [u32; 4]
-    requires { ⌜ Lent way (now words) (now bytes) ⌝ }
+pub fn decrypt_words(words: &[[u32; 256]], bytes: &[[u8; 256]], w: &[u32], s: [u32; 4]) -> [u32; 4]
+    requires { ⌜ Lent (now words) (now bytes) ⌝ }
     requires { ⌜ 4 ≤ length (now w) ⌝ }
     ensures { λ r. ⌜ r ≡ decryptWords (now (w .entry)) s ⌝ }
 {
     let n = round_count(w);
-    let t = network::inverse_network4(way, words, bytes, w, n, 4, whiten(w[2], w[3], s));
+    let t = network::inverse_network4(words, bytes, w, n, 4, whiten(w[2], w[3], s));
     whiten(w[0], w[1], t)
 }
 
 pub fn encrypt_block(
-    way: u64,
     words: &[[u32; 256]],
     bytes: &[[u8; 256]],
     w: &[u32],
     src: &[u8],
     dst: &mut [u8],
 )
-    requires { ⌜ Lent way (now words) (now bytes) ⌝ }
+    requires { ⌜ Lent (now words) (now bytes) ⌝ }
     requires { ⌜ (4 ≤ length (now w)) × (length (now src) ≡ 16) × (length (now dst) ≡ 16) ⌝ }
     ensures { λ r. ⌜ now (dst .exit) ≡ encryptUnder (now (w .entry)) (now (src .entry)) ⌝ }
 {
-    rows::store(dst, encrypt_words(way, words, bytes, w, rows::load(src, 0)));
+    rows::store(dst, encrypt_words(words, bytes, w, rows::load(src, 0)));
 }
 
 pub fn decrypt_block(
-    way: u64,
     words: &[[u32; 256]],
     bytes: &[[u8; 256]],
     w: &[u32],
     src: &[u8],
     dst: &mut [u8],
 )
-    requires { ⌜ Lent way (now words) (now bytes) ⌝ }
+    requires { ⌜ Lent (now words) (now bytes) ⌝ }
     requires { ⌜ (4 ≤ length (now w)) × (length (now src) ≡ 16) × (length (now dst) ≡ 16) ⌝ }
     ensures { λ r. ⌜ now (dst .exit) ≡ decryptUnder (now (w .entry)) (now (src .entry)) ⌝ }
 {
-    rows::store(dst, decrypt_words(way, words, bytes, w, rows::load(src, 0)));
+    rows::store(dst, decrypt_words(words, bytes, w, rows::load(src, 0)));
 }

@@ -22,7 +22,6 @@ pub fn body_end(book: &[u8], from: usize, at: usize) -> usize
 // A clear sheet is encrypted, an encrypted one decrypted.
 pub fn recode_sheet(
     mark: u8,
-    way: u64,
     words: &[[u32; 256]],
     bytes: &[[u8; 256]],
     w: &[u32],
@@ -30,29 +29,28 @@ pub fn recode_sheet(
     body: &[u8],
     out: &mut [u8],
 )
-    requires { ⌜ Lent way (now words) (now bytes) ⌝ }
+    requires { ⌜ Lent (now words) (now bytes) ⌝ }
     requires { ⌜ (4 ≤ length (now w)) × (length (now entry) ≡ 24) ⌝ }
     requires { ⌜ (length (now body) ≡ 16 * count (now entry)) × (length (now out) ≡ 16 * count (now entry)) ⌝ }
     ensures { λ r. ⌜ now (out .exit) ≡ recodedBody mark (now (w .entry)) (now (entry .entry)) (now (body .entry)) ⌝ }
 {
     if mark == 1 {
-        encrypt::encrypt_sheet(way, words, bytes, w, entry, body, out);
+        encrypt::encrypt_sheet(words, bytes, w, entry, body, out);
     } else {
-        decrypt::decrypt_sheet(way, words, bytes, w, entry, body, out);
+        decrypt::decrypt_sheet(words, bytes, w, entry, body, out);
     }
 }
 
 // Each body recoded where it stood, and the front of the output left as it was.
 pub fn recode_bodies(
     mark: u8,
-    way: u64,
     words: &[[u32; 256]],
     bytes: &[[u8; 256]],
     w: &[u32],
     book: &[u8],
     out: &mut [u8],
 )
-    requires { ⌜ Lent way (now words) (now bytes) ⌝ }
+    requires { ⌜ Lent (now words) (now bytes) ⌝ }
     requires { ⌜ (4 ≤ length (now w)) × Formed (now book) × (length (now out) ≡ length (now book)) ⌝ }
     ensures { λ r. ⌜ now (out .exit) ≡ take (4 + 24 * sheetCount (now (book .entry))) (now (out .entry)) ++ eachBody (recodedBody mark (now (w .entry))) (contents (now (book .entry))) (bodies (now (book .entry))) ⌝ }
 {
@@ -64,7 +62,6 @@ pub fn recode_bodies(
         let end = body_end(book, from, at);
         recode_sheet(
             mark,
-            way,
             words,
             bytes,
             w,

@@ -20,33 +20,31 @@ use answer::Answer;
 fn write_book(
     mark: u8,
     to: u8,
-    way: u64,
     words: &[[u32; 256]],
     bytes: &[[u8; 256]],
     w: &[u32],
     book: &[u8],
     out: &mut [u8],
 )
-    requires { ⌜ Lent way (now words) (now bytes) ⌝ }
+    requires { ⌜ Lent (now words) (now bytes) ⌝ }
     requires { ⌜ (4 ≤ length (now w)) × Formed (now book) × (length (now out) ≡ length (now book)) ⌝ }
     ensures { λ r. ⌜ now (out .exit) ≡ recoded to (recodedBody mark (now (w .entry))) (now (book .entry)) ⌝ }
 {
     front::copy_front(to, book, out);
-    bodies::recode_bodies(mark, way, words, bytes, w, book, out);
+    bodies::recode_bodies(mark, words, bytes, w, book, out);
 }
 
 // Checks 4 to 11 of a book with the first byte `mark`; then the other book, with the first byte `to`. Nothing is written before the last check.
 fn recode_book(
     mark: u8,
     to: u8,
-    way: u64,
     words: &[[u32; 256]],
     bytes: &[[u8; 256]],
     w: &[u32],
     book: &[u8],
     out: &mut [u8],
 ) -> Answer
-    requires { ⌜ Lent way (now words) (now bytes) ⌝ }
+    requires { ⌜ Lent (now words) (now bytes) ⌝ }
     requires { ⌜ 4 ≤ length (now w) ⌝ }
     ensures { λ r. ⌜ Given (recodedBook mark to (now (w .entry)) (now (book .entry)) (now (out .entry))) (now (out .entry)) r (now (out .exit)) ⌝ }
 {
@@ -57,39 +55,37 @@ fn recode_book(
     let Answer::Accepted(records) = form else {
         return form;
     };
-    if !records::records_hold(mark, way, words, bytes, w, book) {
+    if !records::records_hold(mark, words, bytes, w, book) {
         return Answer::Refused(11);
     }
-    write_book(mark, to, way, words, bytes, w, book, out);
+    write_book(mark, to, words, bytes, w, book, out);
     Answer::Accepted(records)
 }
 
 pub fn encrypt_book(
-    way: u64,
     words: &[[u32; 256]],
     bytes: &[[u8; 256]],
     w: &[u32],
     book: &[u8],
     out: &mut [u8],
 ) -> Answer
-    requires { ⌜ Lent way (now words) (now bytes) ⌝ }
+    requires { ⌜ Lent (now words) (now bytes) ⌝ }
     requires { ⌜ 4 ≤ length (now w) ⌝ }
     ensures { λ r. ⌜ Given (encryptBookBy [] (encryptUnder (now (w .entry))) (now (book .entry)) (now (out .entry))) (now (out .entry)) r (now (out .exit)) ⌝ }
 {
-    recode_book(1, 2, way, words, bytes, w, book, out)
+    recode_book(1, 2, words, bytes, w, book, out)
 }
 
 pub fn decrypt_book(
-    way: u64,
     words: &[[u32; 256]],
     bytes: &[[u8; 256]],
     w: &[u32],
     book: &[u8],
     out: &mut [u8],
 ) -> Answer
-    requires { ⌜ Lent way (now words) (now bytes) ⌝ }
+    requires { ⌜ Lent (now words) (now bytes) ⌝ }
     requires { ⌜ 4 ≤ length (now w) ⌝ }
     ensures { λ r. ⌜ Given (decryptBookBy [] (decryptUnder (now (w .entry))) (now (book .entry)) (now (out .entry))) (now (out .entry)) r (now (out .exit)) ⌝ }
 {
-    recode_book(2, 1, way, words, bytes, w, book, out)
+    recode_book(2, 1, words, bytes, w, book, out)
 }

@@ -13,14 +13,13 @@ use sheet::decrypt;
 
 pub fn sheet_holds(
     mark: u8,
-    way: u64,
     words: &[[u32; 256]],
     bytes: &[[u8; 256]],
     w: &[u32],
     entry: &[u8],
     body: &[u8],
 ) -> bool
-    requires { ⌜ Lent way (now words) (now bytes) ⌝ }
+    requires { ⌜ Lent (now words) (now bytes) ⌝ }
     requires { ⌜ (4 ≤ length (now w)) × (length (now entry) ≡ 24) ⌝ }
     requires { ⌜ length (now body) ≡ 16 * count (now entry) ⌝ }
     ensures { λ r. ⌜ r ≡ sheetHolds (now (entry .entry)) (clearBody mark (now (w .entry)) (now (entry .entry)) (now (body .entry))) ⌝ }
@@ -28,20 +27,19 @@ pub fn sheet_holds(
     if mark == 1 {
         record::clear_sheet_holds(entry, body)
     } else {
-        decrypt::decrypted_sheet_holds(way, words, bytes, w, entry, body)
+        decrypt::decrypted_sheet_holds(words, bytes, w, entry, body)
     }
 }
 
 // Of a book whose form holds.
 pub fn records_hold(
     mark: u8,
-    way: u64,
     words: &[[u32; 256]],
     bytes: &[[u8; 256]],
     w: &[u32],
     book: &[u8],
 ) -> bool
-    requires { ⌜ Lent way (now words) (now bytes) ⌝ }
+    requires { ⌜ Lent (now words) (now bytes) ⌝ }
     requires { ⌜ (4 ≤ length (now w)) × Formed (now book) ⌝ }
     ensures { λ r. ⌜ r ≡ sheetsHold (clearBody mark (now (w .entry))) (contents (now (book .entry))) (bodies (now (book .entry))) ⌝ }
 {
@@ -51,15 +49,7 @@ pub fn records_hold(
     while 0 < left {
         let next = from + 24;
         let end = bodies::body_end(book, from, at);
-        if !sheet_holds(
-            mark,
-            way,
-            words,
-            bytes,
-            w,
-            &book[from..next],
-            &book[at..end],
-        ) {
+        if !sheet_holds(mark, words, bytes, w, &book[from..next], &book[at..end]) {
             return false;
         }
         from = next;

@@ -1,12 +1,12 @@
 -- What the calls cite: a call peeled check by check, and the sizes that go with a permitted key.
-use Prim.Native.Nat.{ℕ, _+_, _*_, _≤_}
+use Prim.Native.Nat.{ℕ, _+_, _*_, _≤_, _<_}
 use mathlib.Core.Bool.{Bool, true, false, not, _||_}
 use mathlib.Core.Logic.{_≢_}
 use mathlib.Core.List.{List, [], _∷_}
 use mathlib.Core.Path.{_≡_, refl, sym, ap, _∙_}
 use native.Mathlib.Omega.{arith}
 use borrow.Author.Tests.{not-true, not-false}
-use lib.Dec.{eqb, lit≤}
+use lib.Dec.{eqb, lit≤, lit<}
 use lib.ListN.{length, take, length-take}
 use Rattle.clefia_spec.specs.Words.{bytesOf, byKeyLength, KeyLength, sixteen, twentyFour, thirtyTwo}
 use Rattle.clefia_spec.specs.Constants.{constants}
@@ -144,10 +144,16 @@ expanded-large sixteen e = rw e (lit≤ tt)
 expanded-large twentyFour e = rw e (lit≤ tt)
 expanded-large thirtyTwo e = rw e (lit≤ tt)
 
--- ---- the tables that a way reads
+-- ---- the tables that are lent: the words alone, the bytes alone, or none
 
-pub lent-words : {way : ℕ} {ws bs : List (List ℕ)} → way ≡ 2 → ws ≡ wordTables → Lent way ws bs
-lent-words {way} e h = record { words = λ _. h; bytes = λ (f : way ≡ 1). let z : ⊥ = omega (arith, e, f) in absurd z }
+never : (n : ℕ) {A : Type 0} → 0 < n → 0 ≡ n → A
+never n h e = let z : ⊥ = omega (arith, h, e) in absurd z
 
-pub lent-bytes : {way : ℕ} {ws bs : List (List ℕ)} → way ≢ 2 → bs ≡ byteTables → Lent way ws bs
-lent-bytes n h = record { words = λ e. absurd (n e); bytes = λ _. h }
+pub lent-words : {ws : List (List ℕ)} → ws ≡ wordTables → Lent ws []
+lent-words h = record { words = λ _. h; bytes = never 2 (lit< tt) }
+
+pub lent-bytes : {bs : List (List ℕ)} → bs ≡ byteTables → Lent [] bs
+lent-bytes h = record { words = never 8 (lit< tt); bytes = λ _. h }
+
+pub lent-none : Lent [] []
+lent-none = record { words = never 8 (lit< tt); bytes = never 2 (lit< tt) }

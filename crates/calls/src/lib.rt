@@ -70,14 +70,13 @@ fn check_key(key: &[u8], way: u64) -> Answer
 // Checks 3 and 4, and then one block decrypted or encrypted under expanded words.
 fn code_block(
     decrypting: bool,
-    way: u64,
     words: &[[u32; 256]],
     bytes: &[[u8; 256]],
     w: &[u32],
     block: &[u8],
     out: &mut [u8],
 ) -> Answer
-    requires { ⌜ Lent way (now words) (now bytes) ⌝ }
+    requires { ⌜ Lent (now words) (now bytes) ⌝ }
     requires { ⌜ 4 ≤ length (now w) ⌝ }
     ensures { λ r. ⌜ Given (blockUnder decrypting (now (w .entry)) (now (block .entry)) (now (out .entry))) (now (out .entry)) r (now (out .exit)) ⌝ }
 {
@@ -88,10 +87,10 @@ fn code_block(
         return Answer::Refused(4);
     }
     if decrypting {
-        block::decrypt_block(way, words, bytes, w, block, out);
+        block::decrypt_block(words, bytes, w, block, out);
         return Answer::Accepted(1);
     }
-    block::encrypt_block(way, words, bytes, w, block, out);
+    block::encrypt_block(words, bytes, w, block, out);
     Answer::Accepted(1)
 }
 
@@ -107,7 +106,6 @@ pub enum Task {
 // The key expanded into w, and the task done under it.
 fn perform(
     task: Task,
-    way: u64,
     words: &[[u32; 256]],
     bytes: &[[u8; 256]],
     key: &[u8],
@@ -115,38 +113,34 @@ fn perform(
     src: &[u8],
     out: &mut [u8],
 ) -> Answer
-    requires { ⌜ Lent way (now words) (now bytes) ⌝ }
+    requires { ⌜ Lent (now words) (now bytes) ⌝ }
     requires { ⌜ KeyLength (length (now key)) ⌝ }
     requires { ⌜ length (now w) ≡ byKeyLength (length (now key)) 40 48 56 ⌝ }
     ensures { λ r. ⌜ Given (performed task (now (key .entry)) (now (src .entry)) (now (out .entry))) (now (out .entry)) r (now (out .exit)) ⌝ }
 {
-    schedule::expand_key(way, words, bytes, key, w);
+    schedule::expand_key(words, bytes, key, w);
     match task {
         Task::ExpandKey => write_words(w, out),
-        Task::EncryptBlock => code_block(false, way, words, bytes, w, src, out),
-        Task::DecryptBlock => code_block(true, way, words, bytes, w, src, out),
-        Task::EncryptBook => book::encrypt_book(way, words, bytes, w, src, out),
-        Task::DecryptBook => book::decrypt_book(way, words, bytes, w, src, out),
+        Task::EncryptBlock => code_block(false, words, bytes, w, src, out),
+        Task::DecryptBlock => code_block(true, words, bytes, w, src, out),
+        Task::EncryptBook => book::encrypt_book(words, bytes, w, src, out),
+        Task::DecryptBook => book::decrypt_book(words, bytes, w, src, out),
     }
 }
 
 // The same with the tables that the way reads, each fetched where it is lent: a table costs a copy. In place of the others nothing is lent.
-fn perform_by(
-    task: Task,
-    way: u64,
-    key: &[u8],
-    w: &mut [u32],
-    src: &[u8],
-    out: &mut [u8],
-) -> Answer
+fn perform_by(task: Task, way: u64, key: &[u8], w: &mut [u32], src: &[u8], out: &mut [u8]) -> Answer
     requires { ⌜ KeyLength (length (now key)) ⌝ }
     requires { ⌜ length (now w) ≡ byKeyLength (length (now key)) 40 48 56 ⌝ }
     ensures { λ r. ⌜ Given (performed task (now (key .entry)) (now (src .entry)) (now (out .entry))) (now (out .entry)) r (now (out .exit)) ⌝ }
 {
     if way == 2 {
-        return perform(task, way, &word_tables::all(), &[], key, w, src, out);
+        return perform(task, &word_tables::all(), &[], key, w, src, out);
     }
-    perform(task, way, &[], &sbox::tables::byte_tables(), key, w, src, out)
+    if way == 1 {
+        return perform(task, &[], &sbox::tables::byte_tables(), key, w, src, out);
+    }
+    perform(task, &[], &[], key, w, src, out)
 }
 
 // Every call that takes a key: checks 1 and 2, and then its task.

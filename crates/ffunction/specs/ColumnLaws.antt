@@ -86,11 +86,21 @@ last-first : (a b c d : ℕ) → d ⊕ c ⊕ a ⊕ b ≡ a ⊕ b ⊕ c ⊕ d
 last-first a b c d =
     xor-assoc (d ⊕ c) a b ∙ xor-comm (d ⊕ c) (a ⊕ b) ∙ ap (λ (x : ℕ). a ⊕ b ⊕ x) (xor-comm d c) ∙ sym (xor-assoc (a ⊕ b) c d)
 
-pub columns-mix : (f z : ℕ) → f < 2
+columns-mix : (f z : ℕ) → f < 2
     → column f 3 (z % 256) ⊕ column f 2 (z / 256 % 256) ⊕ column f 0 (z / 16777216 % 256) ⊕ column f 1 (z / 65536 % 256) ≡ mix f z
 columns-mix f z h =
     last-first (column f 0 (z / 16777216 % 256)) (column f 1 (z / 65536 % 256)) (column f 2 (z / 256 % 256)) (column f 3 (z % 256))
     ∙ sym (mix-columns f z h)
+
+-- The same added to a word, one after the other.
+pub columns-added : (f z y : ℕ) → f < 2
+    → y ⊕ column f 3 (z % 256) ⊕ column f 2 (z / 256 % 256) ⊕ column f 0 (z / 16777216 % 256) ⊕ column f 1 (z / 65536 % 256) ≡ y ⊕ mix f z
+columns-added f z y h =
+    added y (column f 3 (z % 256)) (column f 2 (z / 256 % 256)) (column f 0 (z / 16777216 % 256)) (column f 1 (z / 65536 % 256))
+    ∙ ap (λ (x : ℕ). y ⊕ x) (columns-mix f z h)
+  where
+    added : (y a b c d : ℕ) → y ⊕ a ⊕ b ⊕ c ⊕ d ≡ y ⊕ (a ⊕ b ⊕ c ⊕ d)
+    added y a b c d = rw (xor-assoc y a b, xor-assoc y (a ⊕ b) c, xor-assoc y (a ⊕ b ⊕ c) d)
 
 pub length-wordTables : length wordTables ≡ 8
 unfolding wordTables

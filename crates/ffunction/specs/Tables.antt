@@ -2,6 +2,7 @@
 use Prim.Native.Nat.{ℕ, zero, suc, _+_, _-_, _/_, _%_}
 use mathlib.Core.Path.{_≡_}
 use mathlib.Core.List.{List, [], _∷_}
+use lib.ListN.{length}
 use Rattle.clefia_spec.specs.Words.{fromDigits, toDigits}
 use Rattle.clefia_spec.specs.Field.{product}
 use Rattle.clefia_spec.specs.FFunction.{m0, m1, entry, matrixTimes, substitute}
@@ -34,7 +35,8 @@ wordTable t = values (column (t / 4) (t % 4)) 0 256
 unfoldable pub wordTables : List (List ℕ)
 wordTables = values wordTable 0 8
 
--- The tables that a caller lends for a way: way 2 reads the word tables, way 1 the byte tables, and way 3 neither.
-pub record Lent (way : ℕ) (ws bs : List (List ℕ)) : Type 0 where
-  pub words : way ≡ 2 → ws ≡ wordTables
-  pub bytes : way ≡ 1 → bs ≡ byteTables
+-- The tables that a caller lends: all of a kind, or none of it. Where the word tables are lent they are read (way 2), else the byte tables (way 1), and
+-- where neither is lent the rules are worked out (way 3). The result is the same.
+pub record Lent (ws bs : List (List ℕ)) : Type 0 where
+  pub words : length ws ≡ 8 → ws ≡ wordTables
+  pub bytes : length bs ≡ 2 → bs ≡ byteTables

@@ -2,7 +2,7 @@
 ghost use mathlib.Core.Path.{_≡_};
 ghost use mathlib.Core.List.{[], _∷_};
 ghost use Prim.Native.Nat.{_-_, _<_};
-ghost use lib.ListN.{getD};
+ghost use lib.ListN.{length, getD};
 use gf256::product;
 use sbox::by_rule;
 use sbox::by_table;
@@ -22,12 +22,13 @@ fn column(words: &[[u32; 256]], f: usize, j: usize, x: usize) -> u32
 }
 
 // By word tables: one entry for each byte. A round waits for the four entries: the two that are found by the fewest steps come first (DECISIONS).
-fn by_words(words: &[[u32; 256]], f: usize, z: u32) -> u32
+fn by_words(words: &[[u32; 256]], f: usize, z: u32, y: u32) -> u32
     requires { ⌜ f < 2 ⌝ }
     requires { ⌜ now words ≡ wordTables ⌝ }
-    ensures { λ r. ⌜ r ≡ mix f z ⌝ }
+    ensures { λ r. ⌜ r ≡ y ⊕ mix f z ⌝ }
 {
-    column(words, f, 3, (z % 256) as usize)
+    y
+        ^ column(words, f, 3, (z % 256) as usize)
         ^ column(words, f, 2, (z / 256 % 256) as usize)
         ^ column(words, f, 0, (z / 16777216 % 256) as usize)
         ^ column(words, f, 1, (z / 65536 % 256) as usize)
@@ -60,16 +61,16 @@ fn by_rules(i: usize, a: u8, b: u8, c: u8, d: u8) -> [u8; 4]
 }
 
 // The same of the four bytes of a word, by way 1 or by any other.
-fn substitute(way: u64, bytes: &[[u8; 256]], i: usize, z: u32) -> [u8; 4]
+fn substitute(bytes: &[[u8; 256]], i: usize, z: u32) -> [u8; 4]
     requires { ⌜ i < 2 ⌝ }
-    requires { ⌜ (way ≡ 1 → now bytes ≡ byteTables) ⌝ }
+    requires { ⌜ (length (now bytes) ≡ 2 → now bytes ≡ byteTables) ⌝ }
     ensures { λ r. ⌜ r ≡ substitute (box i) (box (1 - i)) (toDigits 256 4 z) ⌝ }
 {
     let a = (z / 16777216 % 256) as u8;
     let b = (z / 65536 % 256) as u8;
     let c = (z / 256 % 256) as u8;
     let d = (z % 256) as u8;
-    if way == 1 {
+    if bytes.len() == 2 {
         by_tables(bytes, i, a, b, c, d)
     } else {
         by_rules(i, a, b, c, d)
@@ -103,36 +104,36 @@ fn matrix_times(a: u8, b: u8, c: u8, d: u8, y: [u8; 4]) -> u32
 }
 
 // Byte by byte, by ways 1 and 3. It is one function for F0 and F1 so that it stays out of line, and the rounds keep F0 and F1 inlined (DECISIONS).
-fn by_bytes(way: u64, bytes: &[[u8; 256]], f: usize, z: u32) -> u32
+fn by_bytes(bytes: &[[u8; 256]], f: usize, z: u32, y: u32) -> u32
     requires { ⌜ f < 2 ⌝ }
-    requires { ⌜ (way ≡ 1 → now bytes ≡ byteTables) ⌝ }
-    ensures { λ r. ⌜ r ≡ mix f z ⌝ }
+    requires { ⌜ (length (now bytes) ≡ 2 → now bytes ≡ byteTables) ⌝ }
+    ensures { λ r. ⌜ r ≡ y ⊕ mix f z ⌝ }
 {
     if f == 0 {
-        matrix_times(0x01, 0x02, 0x04, 0x06, substitute(way, bytes, 0, z))
+        y ^ matrix_times(0x01, 0x02, 0x04, 0x06, substitute(bytes, 0, z))
     } else {
-        matrix_times(0x01, 0x08, 0x02, 0x0a, substitute(way, bytes, 1, z))
+        y ^ matrix_times(0x01, 0x08, 0x02, 0x0a, substitute(bytes, 1, z))
     }
 }
 
-pub fn f0(way: u64, words: &[[u32; 256]], bytes: &[[u8; 256]], k: u32, x: u32) -> u32
-    requires { ⌜ Lent way (now words) (now bytes) ⌝ }
-    ensures { λ r. ⌜ r ≡ f0 k x ⌝ }
+pub fn f0(words: &[[u32; 256]], bytes: &[[u8; 256]], k: u32, x: u32, y: u32) -> u32
+    requires { ⌜ Lent (now words) (now bytes) ⌝ }
+    ensures { λ r. ⌜ r ≡ y ⊕ f0 k x ⌝ }
 {
-    if way == 2 {
-        by_words(words, 0, k ^ x)
+    if words.len() == 8 {
+        by_words(words, 0, k ^ x, y)
     } else {
-        by_bytes(way, bytes, 0, k ^ x)
+        by_bytes(bytes, 0, k ^ x, y)
     }
 }
 
-pub fn f1(way: u64, words: &[[u32; 256]], bytes: &[[u8; 256]], k: u32, x: u32) -> u32
-    requires { ⌜ Lent way (now words) (now bytes) ⌝ }
-    ensures { λ r. ⌜ r ≡ f1 k x ⌝ }
+pub fn f1(words: &[[u32; 256]], bytes: &[[u8; 256]], k: u32, x: u32, y: u32) -> u32
+    requires { ⌜ Lent (now words) (now bytes) ⌝ }
+    ensures { λ r. ⌜ r ≡ y ⊕ f1 k x ⌝ }
 {
-    if way == 2 {
-        by_words(words, 1, k ^ x)
+    if words.len() == 8 {
+        by_words(words, 1, k ^ x, y)
     } else {
-        by_bytes(way, bytes, 1, k ^ x)
+        by_bytes(bytes, 1, k ^ x, y)
     }
 }

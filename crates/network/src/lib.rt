@@ -1,8 +1,9 @@
 // The generalised Feistel networks of four and of eight branches. A state is a row of words, passed and returned by value.
-// `way` says how the round functions are worked out; the tables that they read are lent all the way down.
+// The tables that the round functions read, if any, are lent from above.
 ghost use mathlib.Core.Path.{_≡_};
-ghost use Prim.Native.Nat.{_+_, _*_, _≤_};
-ghost use lib.ListN.{length};
+ghost use mathlib.Core.List.{List};
+ghost use Prim.Native.Nat.{ℕ, _+_, _*_, _≤_};
+ghost use lib.ListN.{length, getD};
 ghost use Rattle.clefia_spec.specs.FFunction.{f0, f1};
 ghost use Rattle.clefia_spec.specs.Network.{feistel, rotateLeft, rotateRight, network4, inverseNetwork4, network8};
 ghost use Rattle.ffunction.specs.Tables.{Lent};
@@ -19,27 +20,18 @@ fn rotate_right4(s: [u32; 4]) -> [u32; 4]
     [s[3], s[0], s[1], s[2]]
 }
 
-// The Feistel step of a round, with the round keys at `at` of `w`.
-fn feistel4(
-    way: u64,
-    words: &[[u32; 256]],
-    bytes: &[[u8; 256]],
-    w: &[u32],
-    at: usize,
-    s: [u32; 4],
-) -> [u32; 4]
-    requires { ⌜ Lent way (now words) (now bytes) ⌝ }
-    requires { ⌜ at + 2 ≤ length (now w) ⌝ }
-    ensures { λ r. ⌜ r ≡ feistel f0 f1 (now (w .entry)) at s ⌝ }
+// The Feistel step of a round with the round keys a and b, in whatever row they stand.
+fn feistel4(words: &[[u32; 256]], bytes: &[[u8; 256]], a: u32, b: u32, s: [u32; 4]) -> [u32; 4]
+    requires { ⌜ Lent (now words) (now bytes) ⌝ }
+    ensures { λ r. ⌜ ((w : List ℕ) (i : ℕ) → a ≡ getD w i 0 → b ≡ getD w (i + 1) 0 → r ≡ feistel f0 f1 w i s) ⌝ }
 {
-    let y = s[1] ^ ffunction::f0(way, words, bytes, w[at], s[0]);
-    let z = s[3] ^ ffunction::f1(way, words, bytes, w[at + 1], s[2]);
+    let y = ffunction::f0(words, bytes, a, s[0], s[1]);
+    let z = ffunction::f1(words, bytes, b, s[2], s[3]);
     [s[0], y, s[2], z]
 }
 
 // n rounds with the round keys from `at` on.
 pub fn network4(
-    way: u64,
     words: &[[u32; 256]],
     bytes: &[[u8; 256]],
     w: &[u32],
@@ -47,7 +39,7 @@ pub fn network4(
     at: usize,
     s: [u32; 4],
 ) -> [u32; 4]
-    requires { ⌜ Lent way (now words) (now bytes) ⌝ }
+    requires { ⌜ Lent (now words) (now bytes) ⌝ }
     requires { ⌜ at + 2 * n ≤ length (now w) ⌝ }
     ensures { λ r. ⌜ r ≡ network4 n (now (w .entry)) at s ⌝ }
 {
@@ -55,7 +47,7 @@ pub fn network4(
     let mut left = n;
     let mut i = at;
     while 0 < left {
-        let next = rotate_left4(feistel4(way, words, bytes, w, i, t));
+        let next = rotate_left4(feistel4(words, bytes, w[i], w[i + 1], t));
         t = next;
         left -= 1;
         i += 2;
@@ -65,7 +57,6 @@ pub fn network4(
 
 // The same rounds taken back, the last one first.
 pub fn inverse_network4(
-    way: u64,
     words: &[[u32; 256]],
     bytes: &[[u8; 256]],
     w: &[u32],
@@ -73,7 +64,7 @@ pub fn inverse_network4(
     at: usize,
     s: [u32; 4],
 ) -> [u32; 4]
-    requires { ⌜ Lent way (now words) (now bytes) ⌝ }
+    requires { ⌜ Lent (now words) (now bytes) ⌝ }
     requires { ⌜ at + 2 * n ≤ length (now w) ⌝ }
     ensures { λ r. ⌜ r ≡ inverseNetwork4 n (now (w .entry)) at s ⌝ }
 {
@@ -82,7 +73,7 @@ pub fn inverse_network4(
     let mut i = at + 2 * n;
     while done < n {
         i -= 2;
-        let next = feistel4(way, words, bytes, w, i, rotate_right4(t));
+        let next = feistel4(words, bytes, w[i], w[i + 1], rotate_right4(t));
         t = next;
         done += 1;
     }
@@ -102,26 +93,24 @@ fn rotate_right8(s: [u32; 8]) -> [u32; 8]
 }
 
 fn feistel8(
-    way: u64,
     words: &[[u32; 256]],
     bytes: &[[u8; 256]],
     w: &[u32],
     at: usize,
     s: [u32; 8],
 ) -> [u32; 8]
-    requires { ⌜ Lent way (now words) (now bytes) ⌝ }
+    requires { ⌜ Lent (now words) (now bytes) ⌝ }
     requires { ⌜ at + 4 ≤ length (now w) ⌝ }
     ensures { λ r. ⌜ r ≡ feistel f0 f1 (now (w .entry)) at s ⌝ }
 {
-    let p = s[1] ^ ffunction::f0(way, words, bytes, w[at], s[0]);
-    let q = s[3] ^ ffunction::f1(way, words, bytes, w[at + 1], s[2]);
-    let u = s[5] ^ ffunction::f0(way, words, bytes, w[at + 2], s[4]);
-    let v = s[7] ^ ffunction::f1(way, words, bytes, w[at + 3], s[6]);
+    let p = ffunction::f0(words, bytes, w[at], s[0], s[1]);
+    let q = ffunction::f1(words, bytes, w[at + 1], s[2], s[3]);
+    let u = ffunction::f0(words, bytes, w[at + 2], s[4], s[5]);
+    let v = ffunction::f1(words, bytes, w[at + 3], s[6], s[7]);
     [s[0], p, s[2], q, s[4], u, s[6], v]
 }
 
 pub fn network8(
-    way: u64,
     words: &[[u32; 256]],
     bytes: &[[u8; 256]],
     w: &[u32],
@@ -129,7 +118,7 @@ pub fn network8(
     at: usize,
     s: [u32; 8],
 ) -> [u32; 8]
-    requires { ⌜ Lent way (now words) (now bytes) ⌝ }
+    requires { ⌜ Lent (now words) (now bytes) ⌝ }
     requires { ⌜ at + 4 * n ≤ length (now w) ⌝ }
     ensures { λ r. ⌜ r ≡ network8 n (now (w .entry)) at s ⌝ }
 {
@@ -137,7 +126,7 @@ pub fn network8(
     let mut left = n;
     let mut i = at;
     while 0 < left {
-        let next = rotate_left8(feistel8(way, words, bytes, w, i, t));
+        let next = rotate_left8(feistel8(words, bytes, w, i, t));
         t = next;
         left -= 1;
         i += 4;

@@ -92,19 +92,13 @@ fn round_keys(
 }
 
 // A key of four words.
-fn expand_short(
-    way: u64,
-    words: &[[u32; 256]],
-    bytes: &[[u8; 256]],
-    k: [u32; 4],
-    w: &mut [u32],
-)
-    requires { ⌜ Lent way (now words) (now bytes) ⌝ }
+fn expand_short(words: &[[u32; 256]], bytes: &[[u8; 256]], k: [u32; 4], w: &mut [u32])
+    requires { ⌜ Lent (now words) (now bytes) ⌝ }
     requires { ⌜ length (now w) ≡ 40 ⌝ }
     ensures { λ r. ⌜ now (w .exit) ≡ expandShort k ⌝ }
 {
     let con = constants::sixteen();
-    let l = network::network4(way, words, bytes, &con, 12, 0, k);
+    let l = network::network4(words, bytes, &con, 12, 0, k);
     rows::put_four(w, 0, k);
     round_keys(4, 24, &con, 9, k, k, l, l, w);
 }
@@ -129,7 +123,6 @@ fn second_half(s: [u32; 8]) -> [u32; 4]
 
 // KL and KR of a longer key, its constants and its number of steps.
 fn expand_long(
-    way: u64,
     words: &[[u32; 256]],
     bytes: &[[u8; 256]],
     con: &[u32],
@@ -138,12 +131,12 @@ fn expand_long(
     kr: [u32; 4],
     w: &mut [u32],
 )
-    requires { ⌜ Lent way (now words) (now bytes) ⌝ }
+    requires { ⌜ Lent (now words) (now bytes) ⌝ }
     requires { ⌜ 40 + 4 * n ≤ length (now con) ⌝ }
     requires { ⌜ length (now w) ≡ 4 + 4 * n ⌝ }
     ensures { λ r. ⌜ now (w .exit) ≡ expandLong (now (con .entry)) n kl kr ⌝ }
 {
-    let l = network::network8(way, words, bytes, con, 10, 0, joined(kl, kr));
+    let l = network::network8(words, bytes, con, 10, 0, joined(kl, kr));
     rows::put_four(w, 0, xors4(kl, kr));
     round_keys(2, 40, con, n, kr, kl, first_half(l), second_half(l), w);
 }
@@ -162,26 +155,20 @@ fn extend_key(key: &[u8]) -> [u32; 4]
 }
 
 // The expanded key of a key of 16, 24 or 32 bytes.
-pub fn expand_key(
-    way: u64,
-    words: &[[u32; 256]],
-    bytes: &[[u8; 256]],
-    key: &[u8],
-    w: &mut [u32],
-)
-    requires { ⌜ Lent way (now words) (now bytes) ⌝ }
+pub fn expand_key(words: &[[u32; 256]], bytes: &[[u8; 256]], key: &[u8], w: &mut [u32])
+    requires { ⌜ Lent (now words) (now bytes) ⌝ }
     requires { ⌜ KeyLength (length (now key)) ⌝ }
     requires { ⌜ length (now w) ≡ byKeyLength (length (now key)) 40 48 56 ⌝ }
     ensures { λ r. ⌜ now (w .exit) ≡ expandKey (now (key .entry)) ⌝ }
 {
     let k = rows::load(key, 0);
     if key.len() == 16 {
-        expand_short(way, words, bytes, k, w);
+        expand_short(words, bytes, k, w);
     } else if key.len() == 24 {
         let con = constants::twenty_four();
-        expand_long(way, words, bytes, &con, 11, k, extend_key(key), w);
+        expand_long(words, bytes, &con, 11, k, extend_key(key), w);
     } else {
         let con = constants::thirty_two();
-        expand_long(way, words, bytes, &con, 13, k, rows::load(key, 16), w);
+        expand_long(words, bytes, &con, 13, k, rows::load(key, 16), w);
     }
 }

@@ -35,18 +35,17 @@ impl Chain {
 
     pub fn encrypt(
         self,
-        way: u64,
         words: &[[u32; 256]],
         bytes: &[[u8; 256]],
         w: &[u32],
         block: [u32; 4],
     ) -> Step
-        requires { ⌜ Lent way (now words) (now bytes) ⌝ }
+        requires { ⌜ Lent (now words) (now bytes) ⌝ }
         requires { ⌜ 4 ≤ length (now w) ⌝ }
         ensures { λ r. ⌜ r ≡ encryptStep (now (w .entry)) self block ⌝ }
     {
         let previous = self.previous;
-        let encrypted = block::encrypt_words(way, words, bytes, w, xors4(previous, block));
+        let encrypted = block::encrypt_words(words, bytes, w, xors4(previous, block));
         Step {
             block: encrypted,
             next: Chain {
@@ -57,18 +56,17 @@ impl Chain {
 
     pub fn decrypt(
         self,
-        way: u64,
         words: &[[u32; 256]],
         bytes: &[[u8; 256]],
         w: &[u32],
         block: [u32; 4],
     ) -> Step
-        requires { ⌜ Lent way (now words) (now bytes) ⌝ }
+        requires { ⌜ Lent (now words) (now bytes) ⌝ }
         requires { ⌜ 4 ≤ length (now w) ⌝ }
         ensures { λ r. ⌜ r ≡ decryptStep (now (w .entry)) self block ⌝ }
     {
         let previous = self.previous;
-        let clear = xors4(previous, block::decrypt_words(way, words, bytes, w, block));
+        let clear = xors4(previous, block::decrypt_words(words, bytes, w, block));
         Step {
             block: clear,
             next: Chain { previous: block },

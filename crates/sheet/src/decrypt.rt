@@ -11,7 +11,6 @@ use form::entry;
 use form::record;
 
 pub fn decrypt_sheet(
-    way: u64,
     words: &[[u32; 256]],
     bytes: &[[u8; 256]],
     w: &[u32],
@@ -19,7 +18,7 @@ pub fn decrypt_sheet(
     body: &[u8],
     out: &mut [u8],
 )
-    requires { ⌜ Lent way (now words) (now bytes) ⌝ }
+    requires { ⌜ Lent (now words) (now bytes) ⌝ }
     requires { ⌜ (4 ≤ length (now w)) × (length (now entry) ≡ 24) ⌝ }
     requires { ⌜ (length (now body) ≡ 16 * count (now entry)) × (length (now out) ≡ 16 * count (now entry)) ⌝ }
     ensures { λ r. ⌜ now (out .exit) ≡ decryptBody (decryptUnder (now (w .entry))) (now (entry .entry)) (now (body .entry)) ⌝ }
@@ -33,7 +32,7 @@ pub fn decrypt_sheet(
     let mut at = 0;
     while 0 < left {
         let end = at + 16;
-        let step = chain.decrypt(way, words, bytes, w, block);
+        let step = chain.decrypt(words, bytes, w, block);
         let written = step.block;
         let from = blocks::following(end, body.len());
         let read = blocks::exchange(&mut out[at..end], written, body, from);
@@ -47,14 +46,13 @@ pub fn decrypt_sheet(
 
 // Every record of an encrypted body, decrypted and dropped again: nothing is written.
 pub fn decrypted_sheet_holds(
-    way: u64,
     words: &[[u32; 256]],
     bytes: &[[u8; 256]],
     w: &[u32],
     entry: &[u8],
     body: &[u8],
 ) -> bool
-    requires { ⌜ Lent way (now words) (now bytes) ⌝ }
+    requires { ⌜ Lent (now words) (now bytes) ⌝ }
     requires { ⌜ (4 ≤ length (now w)) × (length (now entry) ≡ 24) ⌝ }
     requires { ⌜ length (now body) ≡ 16 * count (now entry) ⌝ }
     ensures { λ r. ⌜ r ≡ sheetHolds (now (entry .entry)) (decryptBody (decryptUnder (now (w .entry))) (now (entry .entry)) (now (body .entry))) ⌝ }
@@ -65,7 +63,7 @@ pub fn decrypted_sheet_holds(
     let mut at = 0;
     while 0 < left {
         let end = at + 16;
-        let step = chain.decrypt(way, words, bytes, w, rows::load(body, at));
+        let step = chain.decrypt(words, bytes, w, rows::load(body, at));
         let clear = step.block;
         if !record::record_holds(sheet, clear) {
             return false;

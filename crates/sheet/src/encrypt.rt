@@ -10,7 +10,6 @@ use super::chain::Chain;
 use form::entry;
 
 pub fn encrypt_sheet(
-    way: u64,
     words: &[[u32; 256]],
     bytes: &[[u8; 256]],
     w: &[u32],
@@ -18,7 +17,7 @@ pub fn encrypt_sheet(
     body: &[u8],
     out: &mut [u8],
 )
-    requires { ⌜ Lent way (now words) (now bytes) ⌝ }
+    requires { ⌜ Lent (now words) (now bytes) ⌝ }
     requires { ⌜ (4 ≤ length (now w)) × (length (now entry) ≡ 24) ⌝ }
     requires { ⌜ (length (now body) ≡ 16 * count (now entry)) × (length (now out) ≡ 16 * count (now entry)) ⌝ }
     ensures { λ r. ⌜ now (out .exit) ≡ encryptBody (encryptUnder (now (w .entry))) (now (entry .entry)) (now (body .entry)) ⌝ }
@@ -32,7 +31,7 @@ pub fn encrypt_sheet(
     let mut at = 0;
     while 0 < left {
         let end = at + 16;
-        let step = chain.encrypt(way, words, bytes, w, block);
+        let step = chain.encrypt(words, bytes, w, block);
         let written = step.block;
         let from = blocks::following(end, body.len());
         let read = blocks::exchange(&mut out[at..end], written, body, from);

@@ -19,7 +19,7 @@ enum-told c = search needs
 write-words-requires : tie.Need-write-words-requires
 write-words-requires c κs =
     let e : tie.After-expand-key = c .before .before .before .before .before .before in
-    le-trans (le-of-eq (e .expand-key .kept .1 .1 .1 .1 .0 ∙ start e .pre .1 .1)) (expanded-small (start e .pre .1 .0))
+    le-trans (le-of-eq (e .expand-key .kept .1 .1 .1 .0 ∙ start e .pre .1 .1)) (expanded-small (start e .pre .1 .0))
 
 enum-told-2 : tie.Need-enum-told-2
 enum-told-2 c = search needs
@@ -27,7 +27,7 @@ enum-told-2 c = search needs
 code-block-requires : tie.Need-code-block-requires
 code-block-requires c κs =
     let e : tie.After-expand-key = c .before .before .before .before .before .before in
-    (start e .pre .0, expanded-large (start e .pre .1 .0) (e .expand-key .kept .1 .1 .1 .1 .0 ∙ start e .pre .1 .1))
+    (start e .pre .0, expanded-large (start e .pre .1 .0) (e .expand-key .kept .1 .1 .1 .0 ∙ start e .pre .1 .1))
 
 enum-told-3 : tie.Need-enum-told-3
 enum-told-3 c = search needs
@@ -35,7 +35,7 @@ enum-told-3 c = search needs
 code-block-requires-2 : tie.Need-code-block-requires-2
 code-block-requires-2 c κs =
     let e : tie.After-expand-key = c .before .before .before .before .before .before in
-    (start e .pre .0, expanded-large (start e .pre .1 .0) (e .expand-key .kept .1 .1 .1 .1 .0 ∙ start e .pre .1 .1))
+    (start e .pre .0, expanded-large (start e .pre .1 .0) (e .expand-key .kept .1 .1 .1 .0 ∙ start e .pre .1 .1))
 
 enum-told-4 : tie.Need-enum-told-4
 enum-told-4 c = search needs
@@ -43,7 +43,7 @@ enum-told-4 c = search needs
 encrypt-book-requires : tie.Need-encrypt-book-requires
 encrypt-book-requires c κs =
     let e : tie.After-expand-key = c .before .before .before .before .before .before in
-    (start e .pre .0, expanded-large (start e .pre .1 .0) (e .expand-key .kept .1 .1 .1 .1 .0 ∙ start e .pre .1 .1))
+    (start e .pre .0, expanded-large (start e .pre .1 .0) (e .expand-key .kept .1 .1 .1 .0 ∙ start e .pre .1 .1))
 
 enum-told-5 : tie.Need-enum-told-5
 enum-told-5 c = search needs
@@ -51,7 +51,7 @@ enum-told-5 c = search needs
 decrypt-book-requires : tie.Need-decrypt-book-requires
 decrypt-book-requires c κs =
     let e : tie.After-expand-key = c .before .before .before .before .before .before in
-    (start e .pre .0, expanded-large (start e .pre .1 .0) (e .expand-key .kept .1 .1 .1 .1 .0 ∙ start e .pre .1 .1))
+    (start e .pre .0, expanded-large (start e .pre .1 .0) (e .expand-key .kept .1 .1 .1 .0 ∙ start e .pre .1 .1))
 
 same-length : tie.Need-same-length
 same-length c = search needs
@@ -65,7 +65,7 @@ returns c =
     let a : tie.After-write-words = c .before .before in
     let e : tie.After-expand-key = a .before .before .before .before .before .before .before in
     given-performed _ _ _ (a .before .before .before .enum-told .given .1) (e .expand-key .ensures)
-    (e .expand-key .kept .1 .1 .1 .1 .0 ∙ start e .pre .1 .1) (a .write-words .ensures)
+    (e .expand-key .kept .1 .1 .1 .0 ∙ start e .pre .1 .1) (a .write-words .ensures)
 
 same-length-3 : tie.Need-same-length-3
 same-length-3 c = search needs
@@ -79,7 +79,7 @@ returns-2 c =
     let a : tie.After-code-block = c .before .before in
     let e : tie.After-expand-key = a .before .before .before .before .before .before .before in
     given-performed _ _ _ (a .before .before .before .enum-told2 .given .1) (e .expand-key .ensures)
-    (e .expand-key .kept .1 .1 .1 .1 .0 ∙ start e .pre .1 .1) (a .code-block .ensures)
+    (e .expand-key .kept .1 .1 .1 .0 ∙ start e .pre .1 .1) (a .code-block .ensures)
 
 same-length-5 : tie.Need-same-length-5
 same-length-5 c = search needs
@@ -93,7 +93,7 @@ returns-3 c =
     let a : tie.After-code-block2 = c .before .before in
     let e : tie.After-expand-key = a .before .before .before .before .before .before .before in
     given-performed _ _ _ (a .before .before .before .enum-told3 .given .1) (e .expand-key .ensures)
-    (e .expand-key .kept .1 .1 .1 .1 .0 ∙ start e .pre .1 .1) (a .code-block2 .ensures)
+    (e .expand-key .kept .1 .1 .1 .0 ∙ start e .pre .1 .1) (a .code-block2 .ensures)
 
 same-length-7 : tie.Need-same-length-7
 same-length-7 c = search needs
@@ -107,7 +107,7 @@ returns-4 c =
     let a : tie.After-encrypt-book = c .before .before in
     let e : tie.After-expand-key = a .before .before .before .before .before .before .before in
     given-performed _ _ _ (a .before .before .before .enum-told4 .given .1) (e .expand-key .ensures)
-    (e .expand-key .kept .1 .1 .1 .1 .0 ∙ start e .pre .1 .1) (a .encrypt-book .ensures)
+    (e .expand-key .kept .1 .1 .1 .0 ∙ start e .pre .1 .1) (a .encrypt-book .ensures)
 
 same-length-9 : tie.Need-same-length-9
 same-length-9 c = search needs
@@ -121,7 +121,7 @@ returns-5 c =
     let a : tie.After-decrypt-book = c .before .before in
     let e : tie.After-expand-key = a .before .before .before .before .before .before .before in
     given-performed _ _ _ (a .before .before .before .enum-told5 .given .1) (e .expand-key .ensures)
-    (e .expand-key .kept .1 .1 .1 .1 .0 ∙ start e .pre .1 .1) (a .decrypt-book .ensures)
+    (e .expand-key .kept .1 .1 .1 .0 ∙ start e .pre .1 .1) (a .decrypt-book .ensures)
 
 pub perform-spec : {M : Type 1} → statement M
 perform-spec =

@@ -1,6 +1,6 @@
--- `calls::perform_by` meets its contract: the tables fetched are the ones that the way reads.
-use Rattle.calls.specs.CallLaws.{lent-words, lent-bytes}
+-- `calls::perform_by` meets its contract: what is lent is a kind of tables, or none.
 use borrow.Author.Needs.{needs}
+use Rattle.calls.specs.CallLaws.{lent-words, lent-bytes, lent-none}
 use Rattle.calls.proofs.perform_by.Statement.{statement}
 use Rattle.calls.proofs.perform_by.Tie as tie
 
@@ -14,8 +14,7 @@ slice-aggregate-perform-2 : tie.Need-slice-aggregate-perform-2
 slice-aggregate-perform-2 c = search needs
 
 perform-requires : tie.Need-perform-requires
-perform-requires c κs =
-    let t : tie.After-all = c .before .before .before .before in (lent-words (t .before .if1 .taken) (t .all .ensures), search needs)
+perform-requires c κs = (lent-words (c .before .before .before .before .all .ensures), search needs)
 
 same-length : tie.Need-same-length
 same-length c = search needs
@@ -36,8 +35,7 @@ slice-aggregate-perform-4 : tie.Need-slice-aggregate-perform-4
 slice-aggregate-perform-4 c = search needs
 
 perform-requires-2 : tie.Need-perform-requires-2
-perform-requires-2 c κs =
-    let t : tie.After-byte-tables = c .before .before .before in (lent-bytes (t .before .before .if1 .left) (t .byte-tables .ensures), search needs)
+perform-requires-2 c κs = (lent-bytes (c .before .before .before .byte-tables .ensures), search needs)
 
 same-length-3 : tie.Need-same-length-3
 same-length-3 c = search needs
@@ -47,6 +45,24 @@ same-length-4 c = search needs
 
 returns-2 : tie.Need-returns-2
 returns-2 c = search needs
+
+slice-aggregate-perform-5 : tie.Need-slice-aggregate-perform-5
+slice-aggregate-perform-5 c = search needs
+
+slice-aggregate-perform-6 : tie.Need-slice-aggregate-perform-6
+slice-aggregate-perform-6 c = search needs
+
+perform-requires-3 : tie.Need-perform-requires-3
+perform-requires-3 c κs = (lent-none, search needs)
+
+same-length-5 : tie.Need-same-length-5
+same-length-5 c = search needs
+
+same-length-6 : tie.Need-same-length-6
+same-length-6 c = search needs
+
+returns-3 : tie.Need-returns-3
+returns-3 c = search needs
 
 pub perform-by-spec : {M : Type 1} → statement M
 perform-by-spec =
@@ -65,4 +81,10 @@ perform-by-spec =
     perform-requires-2
     same-length-3
     same-length-4
-    returns-2)
+    returns-2
+    slice-aggregate-perform-5
+    slice-aggregate-perform-6
+    perform-requires-3
+    same-length-5
+    same-length-6
+    returns-3)

@@ -23,13 +23,13 @@ returns : tie.Need-returns
 unfolding mix matrix m0
 returns c =
     let e : c .before .before .before .args .f ≡ 0 = c .before .before .if1 .taken in
-    rw e (c .matrix-times .ensures ∙ ap (matrixTimes m0) (c .before .substitute .ensures))
+    rw (e, c .matrix-times .ensures, c .before .substitute .ensures)
 
 returns-2 : tie.Need-returns-2
 unfolding mix matrix m1
 returns-2 c =
     let e : c .before .before .before .args .f ≡ 1 = omega arith in
-    rw e (c .matrix-times2 .ensures ∙ ap (matrixTimes m1) (c .before .substitute2 .ensures))
+    rw (e, c .matrix-times2 .ensures, c .before .substitute2 .ensures)
 
 pub by-bytes-spec : {M : Type 1} → statement M
 by-bytes-spec =

@@ -1,5 +1,5 @@
--- `ffunction::by_words` meets its contract: F0 and F1 by columns.
-use Rattle.ffunction.specs.ColumnLaws.{columns-mix}
+-- `ffunction::by_words` meets its contract: F0 and F1 by columns, added to a word.
+use Rattle.ffunction.specs.ColumnLaws.{columns-added}
 use borrow.Author.Needs.{needs}
 use Rattle.ffunction.proofs.by_words.Statement.{statement}
 use Rattle.ffunction.proofs.by_words.Tie as tie
@@ -31,7 +31,7 @@ column-requires-4 c κs = search needs
 returns : tie.Need-returns
 returns c =
     let s = c .before .before .before .before in
-    cc (columns-mix (s .args .f) (s .args .z) (search needs))
+    cc (columns-added (s .args .f) (s .args .z) (s .args .y) (search needs))
 
 pub by-words-spec : {M : Type 1} → statement M
 by-words-spec =

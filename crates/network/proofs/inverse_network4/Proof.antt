@@ -9,10 +9,10 @@ use Rattle.network.proofs.inverse_network4.Statement.{statement}
 use Rattle.network.proofs.inverse_network4.Tie as tie
 
 abbrev Inv-loop : tie.InvT-loop
-Inv-loop way words bytes w n at t₀ done₀ i₀ t done i = (done ≤ n) × (i + 2 * done ≡ at + 2 * n) × (t ≡ undoRounds 2 f0 f1 done w i t₀)
+Inv-loop words bytes w n at t₀ done₀ i₀ t done i = (done ≤ n) × (i + 2 * done ≡ at + 2 * n) × (t ≡ undoRounds 2 f0 f1 done w i t₀)
 
 abbrev μ-loop : tie.MeasureT-loop
-μ-loop way words bytes w n at t₀ done₀ i₀ t done i = n - done
+μ-loop words bytes w n at t₀ done₀ i₀ t done i = n - done
 
 rotate-left4-requires : tie.Need-rotate-left4-requires Inv-loop μ-loop
 rotate-left4-requires c κs = search needs
@@ -30,6 +30,21 @@ loop-holds c = (search needs, search needs, refl)
 sub-i : tie.Need-sub-i Inv-loop μ-loop
 sub-i c = search needs
 
+mul-feistel4 : tie.Need-mul-feistel4 Inv-loop μ-loop
+mul-feistel4 c = search needs
+
+shared-slice-read-feistel4 : tie.Need-shared-slice-read-feistel4 Inv-loop μ-loop
+shared-slice-read-feistel4 c = search needs
+
+add-feistel4 : tie.Need-add-feistel4 Inv-loop μ-loop
+add-feistel4 c = search needs
+
+mul-feistel4-2 : tie.Need-mul-feistel4-2 Inv-loop μ-loop
+mul-feistel4-2 c = search needs
+
+shared-slice-read-feistel4-2 : tie.Need-shared-slice-read-feistel4-2 Inv-loop μ-loop
+shared-slice-read-feistel4-2 c = search needs
+
 rotate-right4-requires : tie.Need-rotate-right4-requires Inv-loop μ-loop
 rotate-right4-requires c κs = search needs
 
@@ -44,11 +59,11 @@ loop-less c = search needs
 
 loop-again : tie.Need-loop-again Inv-loop μ-loop
 loop-again c =
-    let a : tie.At-loop Inv-loop μ-loop = c .before .before .before in
+    let a : tie.At-loop Inv-loop μ-loop = c .before .before .before .before .before in
     let h : a .loop .i ≡ a .loop .i - 2 + 2 = search needs in (
       search needs,
       search needs,
-      rw (c .feistel4 .ensures, c .before .rotate-right4 .ensures, a .loop .inv .2, undo-step 2 f0 f1),
+      rw (c .feistel4 .ensures (a .before .before .before .args .w .now) (a .loop .i - 2) refl refl, c .before .rotate-right4 .ensures, a .loop .inv .2, undo-step 2 f0 f1),
     )
 
 returns : tie.Need-returns Inv-loop μ-loop
@@ -70,6 +85,11 @@ inverse-network4-spec =
     add-i
     loop-holds
     sub-i
+    mul-feistel4
+    shared-slice-read-feistel4
+    add-feistel4
+    mul-feistel4-2
+    shared-slice-read-feistel4-2
     rotate-right4-requires
     feistel4-requires
     add-done

@@ -10,10 +10,10 @@ use Rattle.network.proofs.network8.Statement.{statement}
 use Rattle.network.proofs.network8.Tie as tie
 
 abbrev Inv-loop : tie.InvT-loop
-Inv-loop way words bytes w n at t₀ left₀ i₀ t left i = (i + 4 * left ≤ length w) × (rounds 4 f0 f1 left w i t ≡ rounds 4 f0 f1 n w at t₀)
+Inv-loop words bytes w n at t₀ left₀ i₀ t left i = (i + 4 * left ≤ length w) × (rounds 4 f0 f1 left w i t ≡ rounds 4 f0 f1 n w at t₀)
 
 abbrev μ-loop : tie.MeasureT-loop
-μ-loop way words bytes w n at t₀ left₀ i₀ t left i = left
+μ-loop words bytes w n at t₀ left₀ i₀ t left i = left
 
 loop-holds : tie.Need-loop-holds Inv-loop μ-loop
 loop-holds c = search needs

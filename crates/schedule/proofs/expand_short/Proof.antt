@@ -41,7 +41,7 @@ returns c =
     rw (
       r .round-keys .ensures,
       p .put-four .ensures,
-      take-putFour (s .args .w .now) 0 (s .args .k) (s .good .1 .1 .1 .0 .1 .0 .1) (search needs),
+      take-putFour (s .args .w .now) 0 (s .args .k) (s .good .1 .1 .0 .1 .0 .1) (search needs),
       l .network4 .ensures,
       o .sixteen .ensures,
     )

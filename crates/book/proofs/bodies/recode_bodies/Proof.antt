@@ -13,10 +13,10 @@ use Rattle.book.proofs.bodies.recode_bodies.Statement.{statement}
 use Rattle.book.proofs.bodies.recode_bodies.Tie as tie
 
 abbrev Inv-loop : tie.InvT-loop
-Inv-loop mark way words bytes w book out₀ left₀ from₀ at₀ out left from at = Filled (recodedBody mark w) book out₀ out from at left
+Inv-loop mark words bytes w book out₀ left₀ from₀ at₀ out left from at = Filled (recodedBody mark w) book out₀ out from at left
 
 abbrev μ-loop : tie.MeasureT-loop
-μ-loop mark way words bytes w book out₀ left₀ from₀ at₀ out left from at = left
+μ-loop mark words bytes w book out₀ left₀ from₀ at₀ out left from at = left
 
 abbrev start : tie.In-loop Inv-loop μ-loop → tie.Start Inv-loop μ-loop
 start i = i .before .before .before .before .before .before
@@ -29,7 +29,7 @@ recoded : (c : tie.After-recode-sheet Inv-loop μ-loop) →
     let i : tie.In-loop Inv-loop μ-loop = c .before .before .before .before .before in
     let s : tie.Start Inv-loop μ-loop = start i in
     let e : List ℕ = entryAt (s .args .book .now) (i .before .loop .from) in
-    c .recode-sheet .last .1 .1 .1 .1 .1 .1 .1 .0 ≡ recodedBody (s .args .mark) (s .args .w .now) e (take (16 * count e) (drop (i .before .loop .at) (s .args .book .now)))
+    c .recode-sheet .last .1 .1 .1 .1 .1 .1 .0 ≡ recodedBody (s .args .mark) (s .args .w .now) e (take (16 * count e) (drop (i .before .loop .at) (s .args .book .now)))
 recoded c =
     let b : tie.After-body-end Inv-loop μ-loop = c .before .before .before .before in
     let i : tie.In-loop Inv-loop μ-loop = b .before in
@@ -114,7 +114,7 @@ loop-again c =
     let f : i .before .loop .at + 16 * count (entryAt (s .args .book .now) (i .before .loop .from)) ≤ length (i .before .loop .out) = rw (i .before .loop .inv .long) (following i .body) in
     rw (recoded r, b .body-end .ensures)
     (filled-step _ (i .before .loop .inv) (i .loop-test .taken)
-    (ap length (sym (recoded r)) ∙ r .recode-sheet .kept .1 .1 .1 .1 .1 .1 .1 .0 ∙ part-length _ (i .before .loop .at) (i .before .loop .out) (b .body-end .ensures) f))
+    (ap length (sym (recoded r)) ∙ r .recode-sheet .kept .1 .1 .1 .1 .1 .1 .0 ∙ part-length _ (i .before .loop .at) (i .before .loop .out) (b .body-end .ensures) f))
 
 same-length : tie.Need-same-length Inv-loop μ-loop
 same-length c = c .before .loop .inv .long ∙ sym (c .before .before .before .before .before .before .pre .1 .2)

@@ -14,10 +14,10 @@ use Rattle.book.proofs.records.records_hold.Statement.{statement}
 use Rattle.book.proofs.records.records_hold.Tie as tie
 
 abbrev Inv-loop : tie.InvT-loop
-Inv-loop mark way words bytes w book left₀ from₀ at₀ left from at = Tested (clearBody mark w) book from at left
+Inv-loop mark words bytes w book left₀ from₀ at₀ left from at = Tested (clearBody mark w) book from at left
 
 abbrev μ-loop : tie.MeasureT-loop
-μ-loop mark way words bytes w book left₀ from₀ at₀ left from at = left
+μ-loop mark words bytes w book left₀ from₀ at₀ left from at = left
 
 abbrev start : tie.In-loop Inv-loop μ-loop → tie.Start Inv-loop μ-loop
 start i = i .before .before .before .before .before

@@ -16,10 +16,10 @@ use Rattle.sheet.proofs.decrypt.decrypted_sheet_holds.Statement.{statem
 use Rattle.sheet.proofs.decrypt.decrypted_sheet_holds.Tie as tie
 
 abbrev Inv-loop : tie.InvT-loop
-Inv-loop way words bytes w entry body sheet chain₀ left₀ at₀ chain left at = (sheet .trial ≡ trial entry) × Opened w entry body at left (chain .previous)
+Inv-loop words bytes w entry body sheet chain₀ left₀ at₀ chain left at = (sheet .trial ≡ trial entry) × Opened w entry body at left (chain .previous)
 
 abbrev μ-loop : tie.MeasureT-loop
-μ-loop way words bytes w entry body sheet chain₀ left₀ at₀ chain left at = left
+μ-loop words bytes w entry body sheet chain₀ left₀ at₀ chain left at = left
 
 abbrev start : tie.At-loop Inv-loop μ-loop → tie.Start Inv-loop μ-loop
 start a = a .before .before .before .before .before .before

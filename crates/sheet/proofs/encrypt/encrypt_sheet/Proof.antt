@@ -15,10 +15,10 @@ use Rattle.sheet.proofs.encrypt.encrypt_sheet.Statement.{statement}
 use Rattle.sheet.proofs.encrypt.encrypt_sheet.Tie as tie
 
 abbrev Inv-loop : tie.InvT-loop
-Inv-loop way words bytes w entry body out₀ left₀ chain₀ block₀ at₀ out left chain block at = Chained (cbcEncrypt (encryptUnder w)) entry body out at left (chain .previous) × (0 < left → block ≡ wordsOf 4 (drop at body))
+Inv-loop words bytes w entry body out₀ left₀ chain₀ block₀ at₀ out left chain block at = Chained (cbcEncrypt (encryptUnder w)) entry body out at left (chain .previous) × (0 < left → block ≡ wordsOf 4 (drop at body))
 
 abbrev μ-loop : tie.MeasureT-loop
-μ-loop way words bytes w entry body out₀ left₀ chain₀ block₀ at₀ out left chain block at = left
+μ-loop words bytes w entry body out₀ left₀ chain₀ block₀ at₀ out left chain block at = left
 
 -- before the first block
 begun : (h : tie.After-half Inv-loop μ-loop) →
