@@ -118,13 +118,16 @@ fn perform(
     requires { ⌜ length (now w) ≡ byKeyLength (length (now key)) 40 48 56 ⌝ }
     ensures { λ r. ⌜ Given (performed task (now (key .entry)) (now (src .entry)) (now (out .entry))) (now (out .entry)) r (now (out .exit)) ⌝ }
 {
-    schedule::expand_key(words, bytes, key, w);
+    // Lent on as parts, the slices stay in registers (DECISIONS).
+    let ws = &words[..];
+    let bs = &bytes[..];
+    schedule::expand_key(ws, bs, key, w);
     match task {
         Task::ExpandKey => write_words(w, out),
-        Task::EncryptBlock => code_block(false, words, bytes, w, src, out),
-        Task::DecryptBlock => code_block(true, words, bytes, w, src, out),
-        Task::EncryptBook => book::encrypt_book(words, bytes, w, src, out),
-        Task::DecryptBook => book::decrypt_book(words, bytes, w, src, out),
+        Task::EncryptBlock => code_block(false, ws, bs, w, src, out),
+        Task::DecryptBlock => code_block(true, ws, bs, w, src, out),
+        Task::EncryptBook => book::encrypt_book(ws, bs, w, src, out),
+        Task::DecryptBook => book::decrypt_book(ws, bs, w, src, out),
     }
 }
 

@@ -6,7 +6,7 @@ ghost use lib.ListN.{length, getD};
 use gf256::product;
 use sbox::by_rule;
 use sbox::by_table;
-ghost use Rattle.clefia_spec.specs.Words.{_⊕_, fromDigits, toDigits};
+ghost use Rattle.clefia_spec.specs.Words.{_⊕_, toDigits};
 ghost use Rattle.clefia_spec.specs.FFunction.{f0, f1, matrixTimes, substitute};
 ghost use Rattle.clefia_spec.specs.Field.{product};
 ghost use Rattle.sbox.specs.Boxes.{box};
@@ -21,7 +21,7 @@ fn column(words: &[[u32; 256]], f: usize, j: usize, x: usize) -> u32
     words[4 * f + j][x]
 }
 
-// By word tables: one entry for each byte. A round waits for the four entries: the two that are found by the fewest steps come first (DECISIONS).
+// By word tables: one entry for each byte, added to y. A round waits for the sum: what is known first is added first (DECISIONS).
 fn by_words(words: &[[u32; 256]], f: usize, z: u32, y: u32) -> u32
     requires { ⌜ f < 2 ⌝ }
     requires { ⌜ now words ≡ wordTables ⌝ }
@@ -60,7 +60,7 @@ fn by_rules(i: usize, a: u8, b: u8, c: u8, d: u8) -> [u8; 4]
     ]
 }
 
-// The same of the four bytes of a word, by way 1 or by any other.
+// The same of the four bytes of a word: by the tables where they are lent.
 fn substitute(bytes: &[[u8; 256]], i: usize, z: u32) -> [u8; 4]
     requires { ⌜ i < 2 ⌝ }
     requires { ⌜ (length (now bytes) ≡ 2 → now bytes ≡ byteTables) ⌝ }
@@ -84,18 +84,11 @@ fn row(a: u8, b: u8, c: u8, d: u8, y: [u8; 4]) -> u8
     product(y[0], a) ^ product(y[1], b) ^ product(y[2], c) ^ product(y[3], d)
 }
 
-// The word of four bytes, the first one highest.
-fn word(a: u8, b: u8, c: u8, d: u8) -> u32
-    ensures { λ r. ⌜ r ≡ fromDigits 256 (a ∷ b ∷ c ∷ d ∷ []) ⌝ }
-{
-    a as u32 * 16777216 + b as u32 * 65536 + c as u32 * 256 + d as u32
-}
-
 // The matrix with the first row a b c d times four bytes. Row i holds the same entries in another order: at column j stands the one at i ^ j.
 fn matrix_times(a: u8, b: u8, c: u8, d: u8, y: [u8; 4]) -> u32
     ensures { λ r. ⌜ r ≡ matrixTimes (a ∷ b ∷ c ∷ d ∷ []) y ⌝ }
 {
-    word(
+    rows::join(
         row(a, b, c, d, y),
         row(b, a, d, c, y),
         row(c, d, a, b, y),
@@ -103,7 +96,7 @@ fn matrix_times(a: u8, b: u8, c: u8, d: u8, y: [u8; 4]) -> u32
     )
 }
 
-// Byte by byte, by ways 1 and 3. It is one function for F0 and F1 so that it stays out of line, and the rounds keep F0 and F1 inlined (DECISIONS).
+// Byte by byte, added to y. It is one function for F0 and F1, too large to be inlined, so that the rounds that call it stay small (DECISIONS).
 fn by_bytes(bytes: &[[u8; 256]], f: usize, z: u32, y: u32) -> u32
     requires { ⌜ f < 2 ⌝ }
     requires { ⌜ (length (now bytes) ≡ 2 → now bytes ≡ byteTables) ⌝ }
@@ -116,6 +109,7 @@ fn by_bytes(bytes: &[[u8; 256]], f: usize, z: u32, y: u32) -> u32
     }
 }
 
+// F0 of x under the round key k, added to y; and F1.
 pub fn f0(words: &[[u32; 256]], bytes: &[[u8; 256]], k: u32, x: u32, y: u32) -> u32
     requires { ⌜ Lent (now words) (now bytes) ⌝ }
     ensures { λ r. ⌜ r ≡ y ⊕ f0 k x ⌝ }

@@ -1,12 +1,13 @@
-// Words read from bytes and written as bytes, the first byte highest.
+// Words read from bytes and written as bytes, the first byte highest; rows of four words.
 ghost use mathlib.Core.Path.{_≡_};
 ghost use mathlib.Core.List.{[], _∷_};
 ghost use Prim.Native.Nat.{_+_, _*_, _≤_};
 ghost use lib.ListN.{length, take, drop};
-ghost use Rattle.clefia_spec.specs.Words.{fromDigits, toDigits, bytesOf, wordsOf};
+ghost use Rattle.clefia_spec.specs.Words.{fromDigits, toDigits, bytesOf, wordsOf, xors};
 ghost use Rattle.rows.specs.Rows.{putFour};
 
-fn join(a: u8, b: u8, c: u8, d: u8) -> u32
+// The word of four bytes.
+pub fn join(a: u8, b: u8, c: u8, d: u8) -> u32
     ensures { λ r. ⌜ r ≡ fromDigits 256 (a ∷ b ∷ c ∷ d ∷ []) ⌝ }
 {
     a as u32 * 16777216 + b as u32 * 65536 + c as u32 * 256 + d as u32
@@ -53,6 +54,12 @@ pub fn store(dst: &mut [u8], s: [u32; 4])
     put_word(dst, 4, s[1]);
     put_word(dst, 8, s[2]);
     put_word(dst, 12, s[3]);
+}
+
+pub fn xors4(a: [u32; 4], b: [u32; 4]) -> [u32; 4]
+    ensures { λ r. ⌜ r ≡ xors a b ⌝ }
+{
+    [a[0] ^ b[0], a[1] ^ b[1], a[2] ^ b[2], a[3] ^ b[3]]
 }
 
 // Every word of a row written into four times as many bytes.

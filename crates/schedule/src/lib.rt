@@ -5,7 +5,7 @@ ghost use mathlib.Core.Path.{_≡_};
 ghost use mathlib.Core.List.{_++_};
 ghost use Prim.Native.Nat.{_+_, _*_, _/_, _≤_};
 ghost use lib.ListN.{length, take, drop};
-ghost use Rattle.clefia_spec.specs.Words.{xors, fourAt, wordsOf, byKeyLength, KeyLength};
+ghost use Rattle.clefia_spec.specs.Words.{fourAt, wordsOf, byKeyLength, KeyLength};
 ghost use Rattle.clefia_spec.specs.KeySchedule.{doubleSwap, stepKeys, roundKeys, expandShort, expandLong, extendKey, expandKey};
 ghost use Rattle.rows.specs.Rows.{putFour};
 ghost use Rattle.schedule.specs.Steps.{Own};
@@ -23,12 +23,6 @@ fn double_swap(x: [u32; 4]) -> [u32; 4]
     ]
 }
 
-fn xors4(a: [u32; 4], b: [u32; 4]) -> [u32; 4]
-    ensures { λ r. ⌜ r ≡ xors a b ⌝ }
-{
-    [a[0] ^ b[0], a[1] ^ b[1], a[2] ^ b[2], a[3] ^ b[3]]
-}
-
 fn four_at(w: &[u32], at: usize) -> [u32; 4]
     requires { ⌜ at + 4 ≤ length (now w) ⌝ }
     ensures { λ r. ⌜ r ≡ fourAt (now (w .entry)) at ⌝ }
@@ -41,9 +35,9 @@ fn step_keys(i: usize, con: &[u32], at: usize, k: [u32; 4], l: [u32; 4]) -> [u32
     requires { ⌜ at + 4 ≤ length (now con) ⌝ }
     ensures { λ r. ⌜ r ≡ stepKeys i (fourAt (now (con .entry)) at) k l ⌝ }
 {
-    let m = xors4(four_at(con, at), l);
+    let m = rows::xors4(four_at(con, at), l);
     if i % 2 == 1 {
-        return xors4(k, m);
+        return rows::xors4(k, m);
     }
     m
 }
@@ -137,7 +131,7 @@ fn expand_long(
     ensures { λ r. ⌜ now (w .exit) ≡ expandLong (now (con .entry)) n kl kr ⌝ }
 {
     let l = network::network8(words, bytes, con, 10, 0, joined(kl, kr));
-    rows::put_four(w, 0, xors4(kl, kr));
+    rows::put_four(w, 0, rows::xors4(kl, kr));
     round_keys(2, 40, con, n, kr, kl, first_half(l), second_half(l), w);
 }
 

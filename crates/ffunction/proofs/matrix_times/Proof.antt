@@ -16,8 +16,8 @@ row-requires-3 c κs = search needs
 row-requires-4 : tie.Need-row-requires-4
 row-requires-4 c κs = search needs
 
-word-requires : tie.Need-word-requires
-word-requires c κs = search needs
+join-requires : tie.Need-join-requires
+join-requires c κs = search needs
 
 returns : tie.Need-returns
 unfolding matrixTimes rowTimes entry
@@ -26,4 +26,4 @@ returns c = cc
 pub matrix-times-spec : {M : Type 1} → statement M
 matrix-times-spec =
     tie.close
-    (tie.spec row-requires row-requires-2 row-requires-3 row-requires-4 word-requires returns)
+    (tie.spec row-requires row-requires-2 row-requires-3 row-requires-4 join-requires returns)

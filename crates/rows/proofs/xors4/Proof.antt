@@ -1,9 +1,9 @@
--- `schedule::xors4` meets its contract.
+-- `rows::xors4` meets its contract.
 use borrow.Author.Needs.{needs}
 use Rattle.clefia_spec.specs.Words.{xors}
 use Rattle.rows.specs.Rows.{spelled, spell}
-use Rattle.schedule.proofs.xors4.Statement.{statement}
-use Rattle.schedule.proofs.xors4.Tie as tie
+use Rattle.rows.proofs.xors4.Statement.{statement}
+use Rattle.rows.proofs.xors4.Tie as tie
 
 array-read-t7 : tie.Need-array-read-t7
 array-read-t7 c = search needs
