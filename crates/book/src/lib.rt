@@ -1,4 +1,4 @@
-// Plan books encrypted and decrypted under expanded words, a way and lent tables; never under a key.
+// Plan books encrypted and decrypted under expanded words and lent tables; never under a key.
 // (Document 01's terms are sealing and opening a book; a clear book has the first byte 1, and an encrypted one 2.)
 pub mod bodies;
 pub mod front;
