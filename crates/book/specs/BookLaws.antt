@@ -16,7 +16,8 @@ use Rattle.planbook_spec.specs.WalkLaws.{recoded-front, bodies-at}
 use Rattle.form.specs.Form.{formAnswer}
 use Rattle.form.specs.FormLaws.{Formed, formed}
 use Rattle.answer.specs.Judging.{stopped-first, passed-first, Went, went}
-use Rattle.book.specs.Bodies.{clearBody, recodedBody, recodedBook}
+use Rattle.sheet.specs.Recode.{recodedBody}
+use Rattle.book.specs.Bodies.{clearBody, recodedBook}
 
 -- The front and the bodies are the book.
 pub recoded-whole : (mark : ℕ) (f : List ℕ → List ℕ → List ℕ) {book : List ℕ} {front : List ℕ} → Formed book → front ≡ set (take (4 + 24 * sheetCount book) book) 0 mark

@@ -6,10 +6,10 @@ ghost use lib.ListN.{length, take};
 ghost use Rattle.planbook_spec.specs.Book.{count, sheetCount, contents, bodies, eachBody};
 ghost use Rattle.ffunction.specs.Tables.{Lent};
 ghost use Rattle.form.specs.FormLaws.{Formed};
-ghost use Rattle.book.specs.Bodies.{entryAt, recodedBody};
+ghost use Rattle.sheet.specs.Recode.{recodedBody};
+ghost use Rattle.book.specs.Bodies.{entryAt};
 use form::entry;
-use sheet::decrypt;
-use sheet::encrypt;
+use sheet::recode;
 
 // Where the body ends that stands at `at`, and whose entry stands at `from`.
 pub fn body_end(book: &[u8], from: usize, at: usize) -> usize
@@ -17,28 +17,6 @@ pub fn body_end(book: &[u8], from: usize, at: usize) -> usize
     ensures { λ r. ⌜ r ≡ at + 16 * count (entryAt (now (book .entry)) from) ⌝ }
 {
     at + 16 * entry::half(book, from + 4)
-}
-
-// A clear sheet is encrypted, an encrypted one decrypted.
-pub fn recode_sheet(
-    mark: u8,
-    words: &[[u32; 256]],
-    bytes: &[[u8; 256]],
-    w: &[u32],
-    entry: &[u8],
-    body: &[u8],
-    out: &mut [u8],
-)
-    requires { ⌜ Lent (now words) (now bytes) ⌝ }
-    requires { ⌜ (4 ≤ length (now w)) × (length (now entry) ≡ 24) ⌝ }
-    requires { ⌜ (length (now body) ≡ 16 * count (now entry)) × (length (now out) ≡ 16 * count (now entry)) ⌝ }
-    ensures { λ r. ⌜ now (out .exit) ≡ recodedBody mark (now (w .entry)) (now (entry .entry)) (now (body .entry)) ⌝ }
-{
-    if mark == 1 {
-        encrypt::encrypt_sheet(words, bytes, w, entry, body, out);
-    } else {
-        decrypt::decrypt_sheet(words, bytes, w, entry, body, out);
-    }
 }
 
 // Each body recoded where it stood, and the front of the output left as it was.
@@ -60,7 +38,7 @@ pub fn recode_bodies(
     while 0 < left {
         let next = from + 24;
         let end = body_end(book, from, at);
-        recode_sheet(
+        recode::recode_sheet(
             mark,
             words,
             bytes,

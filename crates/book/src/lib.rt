@@ -13,7 +13,8 @@ ghost use Rattle.planbook_spec.specs.Book.{recoded, encryptBookBy, decryptBookB
 ghost use Rattle.answer.specs.Answer.{Given};
 ghost use Rattle.ffunction.specs.Tables.{Lent};
 ghost use Rattle.form.specs.FormLaws.{Formed};
-ghost use Rattle.book.specs.Bodies.{recodedBody, recodedBook};
+ghost use Rattle.sheet.specs.Recode.{recodedBody};
+ghost use Rattle.book.specs.Bodies.{recodedBook};
 use answer::Answer;
 
 // The other book, with the first byte `to`.

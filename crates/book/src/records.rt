@@ -9,7 +9,7 @@ ghost use Rattle.book.specs.Bodies.{clearBody};
 use super::bodies;
 use form::entry;
 use form::record;
-use sheet::decrypt;
+use sheet::records;
 
 pub fn sheet_holds(
     mark: u8,
@@ -27,7 +27,7 @@ pub fn sheet_holds(
     if mark == 1 {
         record::clear_sheet_holds(entry, body)
     } else {
-        decrypt::decrypted_sheet_holds(words, bytes, w, entry, body)
+        records::decrypted_sheet_holds(words, bytes, w, entry, body)
     }
 }
 

@@ -1,21 +1,24 @@
 -- Laws of chains: what a step on words is on bytes, and stretches of an output that are filled one after the other.
 use Prim.Native.Nat.{ℕ, zero, suc, _+_, _-_, _*_, _^_, _≤_, _<_}
 use mathlib.Core.Path.{_≡_, sym, ap, ap₂, _∙_}
-use mathlib.Core.Bool.{true, false, _&&_}
+use mathlib.Core.Bool.{Bool, true, false, _&&_}
 use mathlib.Core.List.{List, [], _∷_, _++_, append-assoc, append-nil}
 use native.Mathlib.Omega.{arith}
 use borrow.Rule.Slice.PartMut.{putMid, same-len-mid, mid-len}
 use lib.Dec.{lit<}
 use lib.ListN.{length, take, drop, length-append, length-drop}
 use lib.Seq.{length-take-le, take-all, take-at, drop-at}
-use Rattle.clefia_spec.specs.Words.{bytesOf, wordsOf, xors, Below}
+use Rattle.clefia_spec.specs.Words.{bytesOf, wordsOf, xors, choose, Below}
 use Rattle.clefia_spec.specs.DigitLaws.{below-take, below-drop, below-xors, length-xors, length-numbersOf, length-digitsOf, below-numbersOf, below-digitsOf, numbersOf-xors, digitsOf-xors}
 use Rattle.clefia_spec.specs.KeyLaws.{Row}
 use Rattle.clefia_spec.specs.Block.{encryptWords, decryptWords, encryptUnder, decryptUnder}
 use Rattle.clefia_spec.specs.BlockLaws.{block-words, row-encryptWords, row-decryptWords}
-use Rattle.planbook_spec.specs.Book.{count, iv, pieces, recordHolds, allRecordsHold, sheetHolds, cbcEncrypt, cbcDecrypt, decryptBody}
-use Rattle.planbook_spec.specs.WalkLaws.{encrypt-next, decrypt-next}
+use Rattle.planbook_spec.specs.Book.{count, iv, pieces, recordHolds, allRecordsHold, sheetHolds, cbcEncrypt, cbcDecrypt, encryptBody, decryptBody}
+use Rattle.planbook_spec.specs.WalkLaws.{encrypt-next, decrypt-next, encrypt-done, decrypt-done}
 use Rattle.form.specs.Blocks.{block-at, words-at}
+use Rattle.sheet.specs.declared.chain.Chain.{Chain}
+use Rattle.sheet.specs.declared.chain.Step.{Step}
+use Rattle.sheet.specs.Chain.{encryptStep, decryptStep}
 
 -- ---- rows of four words and their bytes
 
@@ -72,41 +75,47 @@ length-part at n out part l h =
 pub filled : (at : ℕ) (out : List ℕ) {whole : List ℕ} → length out ≤ at → take at out ++ [] ≡ whole → out ≡ whole
 filled at out h e = sym (take-all at out h) ∙ sym (append-nil (take at out)) ∙ e
 
--- ---- the body of a sheet, block by block, by any chaining F: `left` blocks are to come, the first of them at `at`
+-- ---- the body of a sheet of a book that is clear or not, block by block: `left` blocks are to come, the first of them at `at`
 
-pub record Chained (F : ℕ → List ℕ → List ℕ → List ℕ) (entry body out : List ℕ) (at left : ℕ) (p : List ℕ) : Type 0 where
+abbrev chaining : Bool → List ℕ → ℕ → List ℕ → List ℕ → List ℕ
+chaining clear w = choose clear (cbcEncrypt (encryptUnder w)) (cbcDecrypt (decryptUnder w))
+
+pub record Chained (clear : Bool) (w entry body out : List ℕ) (at left : ℕ) (p : List ℕ) : Type 0 where
   pub place : at + 16 * left ≡ 16 * count entry
   pub row : Row 4 p
   pub long : length out ≡ 16 * count entry
-  pub whole : take at out ++ F left (bytesOf p) (drop at body) ≡ F (count entry) (iv entry) body
+  pub whole : take at out ++ chaining clear w left (bytesOf p) (drop at body) ≡ chaining clear w (count entry) (iv entry) body
 
-module _ (F : ℕ → List ℕ → List ℕ → List ℕ) {entry body out : List ℕ} where
-  pub chain-start : Below 256 entry → length entry ≡ 24 → length out ≡ 16 * count entry
-      → Chained F entry body out 0 (count entry) (wordsOf 4 (drop 8 entry))
-  chain-start b l m =
-      let k : 16 ≤ length (drop 8 entry) = rw length-drop (omega arith) in
+pub chain-start : (clear : Bool) (w body : List ℕ) {entry out : List ℕ} → Below 256 entry → length entry ≡ 24 → length out ≡ 16 * count entry
+    → Chained clear w entry body out 0 (count entry) (wordsOf 4 (drop 8 entry))
+chain-start clear w body {entry} b l m =
+    let k : 16 ≤ length (drop 8 entry) = rw length-drop (omega arith) in
+    record {
+      place = omega arith;
+      row = row-at (drop 8 entry) (below-drop 8 b);
+      long = m;
+      whole = ap (λ (x : List ℕ). chaining clear w (count entry) x body) (block-at (drop 8 entry) (below-drop 8 b) k);
+    }
+
+-- The block b is written, and q goes before the next.
+module _ {clear : Bool} {w entry body out : List ℕ} {at left : ℕ} {p : List ℕ} (c : Chained clear w entry body out at left p) where
+  chain-step : {b q : List ℕ} → 0 < left → Row 4 b → Row 4 q
+      → chaining clear w left (bytesOf p) (drop at body) ≡ bytesOf b ++ chaining clear w (left - 1) (bytesOf q) (drop (at + 16) body)
+      → Chained clear w entry body (putMid at (at + 16 - at) out (bytesOf b)) (at + 16) (left - 1) q
+  chain-step {b} {q} h rb rq e =
+      let fits : at + 16 ≤ length out = omega (arith, c .place, c .long) in
       record {
-        place = omega arith;
-        row = row-at (drop 8 entry) (below-drop 8 b);
-        long = m;
-        whole = ap (λ (x : List ℕ). F (count entry) x body) (block-at (drop 8 entry) (below-drop 8 b) k);
+        place = omega (arith, c .place);
+        row = rq;
+        long = length-part at 16 out (bytesOf b) (length-bytes rb) fits ∙ c .long;
+        whole = fill-part at 16 out (bytesOf b) _ (length-bytes rb) fits (rw e at (c .whole));
       }
 
-  module _ {at left : ℕ} {p : List ℕ} (c : Chained F entry body out at left p) where
-    pub chain-step : {b q : List ℕ} → 0 < left → Row 4 b → Row 4 q
-        → F left (bytesOf p) (drop at body) ≡ bytesOf b ++ F (left - 1) (bytesOf q) (drop (at + 16) body)
-        → Chained F entry body (putMid at (at + 16 - at) out (bytesOf b)) (at + 16) (left - 1) q
-    chain-step {b} {q} h rb rq e =
-        let fits : at + 16 ≤ length out = omega (arith, c .place, c .long) in
-        record {
-          place = omega (arith, c .place);
-          row = rq;
-          long = length-part at 16 out (bytesOf b) (length-bytes rb) fits ∙ c .long;
-          whole = fill-part at 16 out (bytesOf b) _ (length-bytes rb) fits (rw e at (c .whole));
-        }
-
-    pub chain-end : left ≡ 0 → ((q bs : List ℕ) → F 0 q bs ≡ []) → out ≡ F (count entry) (iv entry) body
-    chain-end z nil = filled at out (omega (arith, c .place, c .long)) (rw (z, nil) at (c .whole))
+pub chain-end : (clear : Bool) {w entry body out : List ℕ} {at left : ℕ} {p : List ℕ} → Chained clear w entry body out at left p → left ≡ 0
+    → out ≡ choose clear (encryptBody (encryptUnder w)) (decryptBody (decryptUnder w)) entry body
+unfolding encryptBody decryptBody
+chain-end true {w} {entry} {body} {out} {at} c z = filled at out (omega (arith, c .place, c .long)) (rw (z, encrypt-done) at (c .whole))
+chain-end false {w} {entry} {body} {out} {at} c z = filled at out (omega (arith, c .place, c .long)) (rw (z, decrypt-done) at (c .whole))
 
 -- One turn of each chaining.
 module _ {w body p : List ℕ} (at : ℕ) {left : ℕ} (words : Below (2 ^ 32) w) (before : Row 4 p) (bytes : Below 256 body) (fits : at + 16 ≤ length body) (h : 0 < left) where
@@ -128,24 +137,21 @@ module _ {w body p : List ℕ} (at : ℕ) {left : ℕ} (words : Below (2 ^ 32) w
       ∙ ap₂ (λ (x y : List ℕ). x ++ cbcDecrypt (decryptUnder w) (left - 1) y (drop (at + 16) body))
       (decrypt-step words before (below-drop at bytes) long) (sym (block-at (drop at body) (below-drop at bytes) long))
 
--- The same turns, as a loop makes them.
-module _ {w entry body out p : List ℕ} {at left : ℕ} (words : Below (2 ^ 32) w) (bytes : Below 256 body) (size : length body ≡ 16 * count entry) (h : 0 < left) where
-  pub encrypt-chained : Chained (cbcEncrypt (encryptUnder w)) entry body out at left p
-      → let q : List ℕ = encryptWords w (xors p (wordsOf 4 (drop at body))) in
-      Chained (cbcEncrypt (encryptUnder w)) entry body (putMid at (at + 16 - at) out (bytesOf q)) (at + 16) (left - 1) q
-  encrypt-chained c =
-      let f : at + 16 ≤ length body = omega (arith, c .place) in
-      let r : Row 4 (encryptWords w (xors p (wordsOf 4 (drop at body)))) = row-encrypted words (c .row) (below-drop at bytes) (rw length-drop (omega arith)) in
-      chain-step (cbcEncrypt (encryptUnder w)) c h r r (encrypt-turn at words (c .row) bytes f h)
-
-  pub decrypt-chained : Chained (cbcDecrypt (decryptUnder w)) entry body out at left p
-      → Chained (cbcDecrypt (decryptUnder w)) entry body (putMid at (at + 16 - at) out (bytesOf (xors p (decryptWords w (wordsOf 4 (drop at body)))))) (at + 16) (left - 1) (wordsOf 4 (drop at body))
-  decrypt-chained c =
-      let f : at + 16 ≤ length body = omega (arith, c .place) in
-      chain-step (cbcDecrypt (decryptUnder w)) c h
-      (row-decrypted words (c .row) (below-drop at bytes) (rw length-drop (omega arith)))
-      (row-at (drop at body) (below-drop at bytes))
-      (decrypt-turn at words (c .row) bytes f h)
+-- The same turns, as a loop makes them: c is the chain.
+pub chain-turn : (clear : Bool) (c : Chain) {w entry body out : List ℕ} {at left : ℕ} → Below (2 ^ 32) w → Below 256 body → length body ≡ 16 * count entry → 0 < left
+    → Chained clear w entry body out at left (c .previous)
+    → let s : Step = choose clear (encryptStep w) (decryptStep w) c (wordsOf 4 (drop at body)) in
+    Chained clear w entry body (putMid at (at + 16 - at) out (bytesOf (s .block))) (at + 16) (left - 1) (s .next .previous)
+chain-turn true c {w} {entry} {body} {out} {at} words bytes size h d =
+    let f : at + 16 ≤ length body = omega (arith, d .place) in
+    let r : Row 4 (encryptWords w (xors (c .previous) (wordsOf 4 (drop at body)))) = row-encrypted words (d .row) (below-drop at bytes) (rw length-drop (omega arith)) in
+    chain-step d h r r (encrypt-turn at words (d .row) bytes f h)
+chain-turn false c {w} {entry} {body} {out} {at} words bytes size h d =
+    let f : at + 16 ≤ length body = omega (arith, d .place) in
+    chain-step d h
+    (row-decrypted words (d .row) (below-drop at bytes) (rw length-drop (omega arith)))
+    (row-at (drop at body) (below-drop at bytes))
+    (decrypt-turn at words (d .row) bytes f h)
 
 -- ---- the block that is read ahead: it begins at `end`, or is the first again where n, the number of those that follow, is 0
 

@@ -1,3 +1,4 @@
 pub mod Exchange
 pub mod Chain
+pub mod Recode
 pub mod ChainLaws

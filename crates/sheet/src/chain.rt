@@ -5,6 +5,7 @@ ghost use lib.ListN.{length, drop};
 ghost use Rattle.clefia_spec.specs.Words.{wordsOf, xors};
 ghost use Rattle.ffunction.specs.Tables.{Lent};
 ghost use Rattle.sheet.specs.Chain.{encryptStep, decryptStep};
+ghost use Rattle.sheet.specs.Recode.{recodeStep};
 
 pub struct Chain {
     // The encrypted block that went before, or the iv.
@@ -70,6 +71,26 @@ impl Chain {
         Step {
             block: clear,
             next: Chain { previous: block },
+        }
+    }
+
+    // By the first byte of a book: 1 where it is clear, and its blocks are encrypted; else they are decrypted.
+    pub fn recode(
+        self,
+        mark: u8,
+        words: &[[u32; 256]],
+        bytes: &[[u8; 256]],
+        w: &[u32],
+        block: [u32; 4],
+    ) -> Step
+        requires { ⌜ Lent (now words) (now bytes) ⌝ }
+        requires { ⌜ 4 ≤ length (now w) ⌝ }
+        ensures { λ r. ⌜ r ≡ recodeStep mark (now (w .entry)) self block ⌝ }
+    {
+        if mark == 1 {
+            self.encrypt(words, bytes, w, block)
+        } else {
+            self.decrypt(words, bytes, w, block)
         }
     }
 }

@@ -1,5 +1,5 @@
-// The body of one sheet under expanded words: encrypted, decrypted, or decrypted and only looked at.
+// The body of one sheet under expanded words: encrypted or decrypted, or decrypted and only looked at.
 pub mod blocks;
 pub mod chain;
-pub mod decrypt;
-pub mod encrypt;
+pub mod recode;
+pub mod records;

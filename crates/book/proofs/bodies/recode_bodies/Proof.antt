@@ -7,7 +7,8 @@ use borrow.Author.Needs.{needs}
 use lib.ListN.{length, take, drop}
 use Rattle.planbook_spec.specs.Book.{count}
 use Rattle.form.specs.Walks.{part, part-length}
-use Rattle.book.specs.Bodies.{entryAt, recodedBody}
+use Rattle.sheet.specs.Recode.{recodedBody}
+use Rattle.book.specs.Bodies.{entryAt}
 use Rattle.book.specs.BodiesLaws.{Next, next, Filled, filled-start, filled-step, filled-end}
 use Rattle.book.proofs.bodies.recode_bodies.Statement.{statement}
 use Rattle.book.proofs.bodies.recode_bodies.Tie as tie

@@ -11,10 +11,10 @@ decrypted-sheet-holds-requires : tie.Need-decrypted-sheet-holds-requires
 decrypted-sheet-holds-requires c κs = search needs
 
 returns : tie.Need-returns
-returns c = rw (eq-eqb _ _ (c .before .if1 .taken)) (c .clear-sheet-holds .ensures)
+returns c = rw (eq-eqb _ 1 (c .before .if1 .taken)) (c .clear-sheet-holds .ensures)
 
 returns-2 : tie.Need-returns-2
-returns-2 c = rw (ne-eqb _ _ (c .before .if1 .left)) (c .decrypted-sheet-holds .ensures)
+returns-2 c = rw (ne-eqb _ 1 (c .before .if1 .left)) (c .decrypted-sheet-holds .ensures)
 
 pub sheet-holds-spec : {M : Type 1} → statement M
 sheet-holds-spec =

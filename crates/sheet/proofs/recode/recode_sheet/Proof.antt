@@ -1,39 +1,37 @@
--- `sheet::encrypt::encrypt_sheet` meets its contract: `left` blocks are to come; the first of them stands at `at`, and has been read.
+-- `sheet::recode::recode_sheet` meets its contract: `left` blocks are to come; the first of them stands at `at`, and has been read.
 use Prim.Native.Nat.{ℕ, _+_, _-_, _*_, _^_, _<_}
 use mathlib.Core.Path.{_≡_, refl, sym, ap, _∙_}
 use native.Mathlib.Omega.{arith}
 use borrow.Author.Needs.{needs}
+use lib.Dec.{eqb}
 use lib.ListN.{length, drop}
 use Rattle.clefia_spec.specs.Words.{wordsOf, Below}
 use Rattle.clefia_spec.specs.DigitLaws.{below-all}
-use Rattle.clefia_spec.specs.Block.{encryptUnder}
-use Rattle.planbook_spec.specs.Book.{count, cbcEncrypt, encryptBody}
-use Rattle.planbook_spec.specs.WalkLaws.{encrypt-done}
+use Rattle.planbook_spec.specs.Book.{count}
 use Rattle.form.specs.Walks.{part-length}
-use Rattle.sheet.specs.ChainLaws.{Chained, chain-start, chain-end, encrypt-chained, ahead-fits}
-use Rattle.sheet.proofs.encrypt.encrypt_sheet.Statement.{statement}
-use Rattle.sheet.proofs.encrypt.encrypt_sheet.Tie as tie
+use Rattle.sheet.specs.ChainLaws.{Chained, chain-start, chain-turn, chain-end, ahead-fits}
+use Rattle.sheet.proofs.recode.recode_sheet.Statement.{statement}
+use Rattle.sheet.proofs.recode.recode_sheet.Tie as tie
 
 abbrev Inv-loop : tie.InvT-loop
-Inv-loop words bytes w entry body out₀ left₀ chain₀ block₀ at₀ out left chain block at = Chained (cbcEncrypt (encryptUnder w)) entry body out at left (chain .previous) × (0 < left → block ≡ wordsOf 4 (drop at body))
+Inv-loop mark words bytes w entry body out₀ left₀ chain₀ block₀ at₀ out left chain block at = Chained (eqb mark 1) w entry body out at left (chain .previous) × (0 < left → block ≡ wordsOf 4 (drop at body))
 
 abbrev μ-loop : tie.MeasureT-loop
-μ-loop words bytes w entry body out₀ left₀ chain₀ block₀ at₀ out left chain block at = left
+μ-loop mark words bytes w entry body out₀ left₀ chain₀ block₀ at₀ out left chain block at = left
 
 -- before the first block
 begun : (h : tie.After-half Inv-loop μ-loop) →
     let s : tie.Start Inv-loop μ-loop = h .before .before .before .before .before in
-    Chained (cbcEncrypt (encryptUnder (s .args .w .now))) (s .args .entry .now) (s .args .body .now) (s .args .out .now) 0 (count (s .args .entry .now)) (wordsOf 4 (drop 8 (s .args .entry .now)))
+    Chained (eqb (s .args .mark) 1) (s .args .w .now) (s .args .entry .now) (s .args .body .now) (s .args .out .now) 0 (count (s .args .entry .now)) (wordsOf 4 (drop 8 (s .args .entry .now)))
 begun h =
     let s : tie.Start Inv-loop μ-loop = h .before .before .before .before .before in
-    chain-start _ (below-all (s .args .entry .now) (λ j k. h .before .before .before .shared-slice-known2 .given j .fits)) (s .pre .1 .0 .1) (s .pre .1 .1 .1)
+    chain-start _ _ _ (below-all (s .args .entry .now) (λ j k. h .before .before .before .shared-slice-known2 .given j .fits)) (s .pre .1 .0 .1) (s .pre .1 .1 .1)
 
 half-requires : tie.Need-half-requires Inv-loop μ-loop
 half-requires c κs = search needs
 
 returns : tie.Need-returns Inv-loop μ-loop
-unfolding encryptBody
-returns c = chain-end (cbcEncrypt (encryptUnder _)) (begun (c .before)) (sym (c .before .half .ensures) ∙ c .if1 .taken) (encrypt-done _)
+returns c = chain-end _ (begun (c .before)) (sym (c .before .half .ensures) ∙ c .if1 .taken)
 
 new-requires : tie.Need-new-requires Inv-loop μ-loop
 new-requires c κs = search needs
@@ -49,8 +47,8 @@ loop-holds c =
 add-end : tie.Need-add-end Inv-loop μ-loop
 add-end c = search needs
 
-encrypt-requires : tie.Need-encrypt-requires Inv-loop μ-loop
-encrypt-requires c κs = search needs
+recode-requires : tie.Need-recode-requires Inv-loop μ-loop
+recode-requires c κs = search needs
 
 following-requires : tie.Need-following-requires Inv-loop μ-loop
 following-requires c κs = search needs
@@ -85,7 +83,7 @@ loop-again : tie.Need-loop-again Inv-loop μ-loop
 loop-again c =
     let x : tie.After-exchange Inv-loop μ-loop = c .before .before .before in
     let f : tie.After-following Inv-loop μ-loop = x .before .before in
-    let e : tie.After-encrypt Inv-loop μ-loop = f .before .before in
+    let e : tie.After-recode Inv-loop μ-loop = f .before .before in
     let a : tie.At-loop Inv-loop μ-loop = e .before .before in
     let k : tie.After-shared-slice-known3 Inv-loop μ-loop = a .before .before .before .before .before .before in
     let s : tie.Start Inv-loop μ-loop = k .before .before .before in
@@ -93,7 +91,7 @@ loop-again c =
     let bytes : Below 256 (s .args .body .now) = below-all (s .args .body .now) (λ j h. k .shared-slice-known3 .given j .fits) in
     let size : length (s .args .body .now) ≡ 16 * count (s .args .entry .now) = s .pre .1 .1 .0 in
     let h : 0 < a .loop .left = e .before .loop-test .taken in (
-      rw (x .exchange .ensures .written, e .encrypt .ensures, a .loop .inv .1 h) (encrypt-chained words bytes size h (a .loop .inv .0)),
+      rw (x .exchange .ensures .written, e .recode .ensures, a .loop .inv .1 h) (chain-turn (eqb (s .args .mark) 1) (a .loop .chain) words bytes size h (a .loop .inv .0)),
       λ m. x .exchange .ensures .read ∙ ap (λ (n : ℕ). wordsOf 4 (drop n (s .args .body .now))) (f .following .ensures .0 (omega (arith, a .loop .inv .0 .place))),
     )
 
@@ -101,11 +99,10 @@ same-length : tie.Need-same-length Inv-loop μ-loop
 same-length c = c .before .loop .inv .0 .long ∙ sym (c .before .before .before .before .before .before .before .before .before .before .pre .1 .1 .1)
 
 returns-2 : tie.Need-returns-2 Inv-loop μ-loop
-unfolding encryptBody
-returns-2 c = chain-end _ (c .before .loop .inv .0) (search needs) (encrypt-done _)
+returns-2 c = chain-end _ (c .before .loop .inv .0) (search needs)
 
-pub encrypt-sheet-spec : {M : Type 1} → statement M
-encrypt-sheet-spec =
+pub recode-sheet-spec : {M : Type 1} → statement M
+recode-sheet-spec =
     tie.close
     (tie.spec
     Inv-loop
@@ -116,7 +113,7 @@ encrypt-sheet-spec =
     load-requires
     loop-holds
     add-end
-    encrypt-requires
+    recode-requires
     following-requires
     sub-exchange
     part-exchange-start

@@ -1,48 +1,13 @@
-// The body of one sheet, decrypted block by block: written, or only its records looked at. `entry` is the sheet's entry.
+// Check 11 of one encrypted sheet. `entry` is the sheet's entry.
 ghost use mathlib.Core.Path.{_≡_};
 ghost use Prim.Native.Nat.{_*_, _≤_};
 ghost use lib.ListN.{length};
 ghost use Rattle.clefia_spec.specs.Block.{decryptUnder};
 ghost use Rattle.planbook_spec.specs.Book.{count, sheetHolds, decryptBody};
 ghost use Rattle.ffunction.specs.Tables.{Lent};
-use super::blocks;
 use super::chain::Chain;
 use form::entry;
 use form::record;
-
-pub fn decrypt_sheet(
-    words: &[[u32; 256]],
-    bytes: &[[u8; 256]],
-    w: &[u32],
-    entry: &[u8],
-    body: &[u8],
-    out: &mut [u8],
-)
-    requires { ⌜ Lent (now words) (now bytes) ⌝ }
-    requires { ⌜ (4 ≤ length (now w)) × (length (now entry) ≡ 24) ⌝ }
-    requires { ⌜ (length (now body) ≡ 16 * count (now entry)) × (length (now out) ≡ 16 * count (now entry)) ⌝ }
-    ensures { λ r. ⌜ now (out .exit) ≡ decryptBody (decryptUnder (now (w .entry))) (now (entry .entry)) (now (body .entry)) ⌝ }
-{
-    let mut left = entry::half(entry, 4);
-    if left == 0 {
-        return;
-    }
-    let mut chain = Chain::new(entry);
-    let mut block = rows::load(body, 0);
-    let mut at = 0;
-    while 0 < left {
-        let end = at + 16;
-        let step = chain.decrypt(words, bytes, w, block);
-        let written = step.block;
-        let from = blocks::following(end, body.len());
-        let read = blocks::exchange(&mut out[at..end], written, body, from);
-        block = read;
-        let next = step.next;
-        chain = next;
-        left -= 1;
-        at = end;
-    }
-}
 
 // Every record of an encrypted body, decrypted and dropped again: nothing is written.
 pub fn decrypted_sheet_holds(

@@ -1,4 +1,4 @@
--- `sheet::decrypt::decrypted_sheet_holds` meets its contract: `left` blocks are to come, the first of them at `at`.
+-- `sheet::records::decrypted_sheet_holds` meets its contract: `left` blocks are to come, the first of them at `at`.
 use Prim.Native.Nat.{ℕ, _^_}
 use mathlib.Core.Path.{_≡_, sym, ap, _∙_}
 use mathlib.Core.List.{List}
@@ -12,8 +12,8 @@ use Rattle.planbook_spec.specs.Book.{trial, recordHolds}
 use Rattle.form.specs.declared.entry.Sheet.{Sheet}
 use Rattle.sheet.specs.declared.chain.Step.{Step}
 use Rattle.sheet.specs.ChainLaws.{Opened, opened-start, opened-broken, opened-step, opened-end}
-use Rattle.sheet.proofs.decrypt.decrypted_sheet_holds.Statement.{statement}
-use Rattle.sheet.proofs.decrypt.decrypted_sheet_holds.Tie as tie
+use Rattle.sheet.proofs.records.decrypted_sheet_holds.Statement.{statement}
+use Rattle.sheet.proofs.records.decrypted_sheet_holds.Tie as tie
 
 abbrev Inv-loop : tie.InvT-loop
 Inv-loop words bytes w entry body sheet chain₀ left₀ at₀ chain left at = (sheet .trial ≡ trial entry) × Opened w entry body at left (chain .previous)
