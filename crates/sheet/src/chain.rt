@@ -2,7 +2,7 @@
 ghost use mathlib.Core.Path.{_≡_};
 ghost use Prim.Native.Nat.{_≤_};
 ghost use lib.ListN.{length, drop};
-ghost use Rattle.clefia_spec.specs.Words.{wordsOf, xors};
+ghost use Rattle.clefia_spec.specs.Words.{wordsOf};
 ghost use Rattle.ffunction.specs.Tables.{Lent};
 ghost use Rattle.sheet.specs.Chain.{encryptStep, decryptStep};
 ghost use Rattle.sheet.specs.Recode.{recodeStep};
@@ -15,12 +15,6 @@ pub struct Chain {
 pub struct Step {
     pub block: [u32; 4],
     pub next: Chain,
-}
-
-fn xors4(a: [u32; 4], b: [u32; 4]) -> [u32; 4]
-    ensures { λ r. ⌜ r ≡ xors a b ⌝ }
-{
-    [a[0] ^ b[0], a[1] ^ b[1], a[2] ^ b[2], a[3] ^ b[3]]
 }
 
 impl Chain {
@@ -46,7 +40,7 @@ impl Chain {
         ensures { λ r. ⌜ r ≡ encryptStep (now (w .entry)) self block ⌝ }
     {
         let previous = self.previous;
-        let encrypted = block::encrypt_words(words, bytes, w, xors4(previous, block));
+        let encrypted = block::encrypt_words(words, bytes, w, rows::xors4(previous, block));
         Step {
             block: encrypted,
             next: Chain {
@@ -67,7 +61,7 @@ impl Chain {
         ensures { λ r. ⌜ r ≡ decryptStep (now (w .entry)) self block ⌝ }
     {
         let previous = self.previous;
-        let clear = xors4(previous, block::decrypt_words(words, bytes, w, block));
+        let clear = rows::xors4(previous, block::decrypt_words(words, bytes, w, block));
         Step {
             block: clear,
             next: Chain { previous: block },
