@@ -1,11 +1,11 @@
--- `edges::books::write_records` ends, and its places stay small: 16 bytes for each record passed, of which there are fewer than 65,536.
+-- `samples::books::write_records` ends, and its places stay small: 16 bytes for each record passed, of which there are fewer than 65,536.
 use Prim.Native.Nat.{_+_, _*_, _≤_, _-_}
 use mathlib.Core.Path.{_≡_}
 use native.Mathlib.Omega.{arith}
 use lib.ListN.{length}
 use borrow.Author.Needs.{needs}
-use Rattle.edges.proofs.books.write_records.Statement.{statement}
-use Rattle.edges.proofs.books.write_records.Tie as tie
+use Rattle.samples.proofs.books.write_records.Statement.{statement}
+use Rattle.samples.proofs.books.write_records.Tie as tie
 
 abbrev Inv-loop : tie.InvT-loop
 Inv-loop book₀ from trial count number₀ at₀ book number at =

@@ -1,10 +1,10 @@
--- `edges::report::is_untouched` ends and reads only what is there: the place is at most the length, and what is left falls with each byte.
+-- `samples::outputs::is_untouched` ends and reads only what is there: the place is at most the length, and what is left falls with each byte.
 use Prim.Native.Nat.{_≤_, _-_}
 use native.Mathlib.Omega.{arith}
 use lib.ListN.{length}
 use borrow.Author.Needs.{needs}
-use Rattle.edges.proofs.report.is_untouched.Statement.{statement}
-use Rattle.edges.proofs.report.is_untouched.Tie as tie
+use Rattle.samples.proofs.outputs.is_untouched.Statement.{statement}
+use Rattle.samples.proofs.outputs.is_untouched.Tie as tie
 
 abbrev Inv-loop : tie.InvT-loop
 Inv-loop output i₀ i = i ≤ length output

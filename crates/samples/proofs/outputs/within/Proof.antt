@@ -1,8 +1,8 @@
--- `edges::report::within` answers a number of the bytes there are, and so the length of as many taken from the front.
+-- `samples::outputs::within` answers a number of the bytes there are, and so the length of as many taken from the front.
 use native.Mathlib.Omega.{arith}
 use lib.ListN.{length-take}
-use Rattle.edges.proofs.report.within.Statement.{statement}
-use Rattle.edges.proofs.report.within.Tie as tie
+use Rattle.samples.proofs.outputs.within.Statement.{statement}
+use Rattle.samples.proofs.outputs.within.Tie as tie
 
 returns : tie.Need-returns
 returns c = (omega arith, simp length-take (omega arith))

@@ -1,18 +1,23 @@
 // Checks 4 to 10: a book's length, its head, its contents.
-use crate::books::put;
-use crate::books::write_book;
-use crate::report::book_calls;
-use crate::report::book_of;
-use crate::report::decrypt_book;
-use crate::report::encrypt_book;
+use reports::book_calls;
+use reports::book_of;
+use reports::decrypt_book;
+use reports::encrypt_book;
+use samples::books::put;
+use samples::books::write_book;
 
-// Check 4, of a book that is right.
-pub fn outputs(key: &[u8], way: u64) {
+// A book of one record, which is right, with an output of the given size.
+pub fn output_of(case: &[u8], key: &[u8], way: u64, size: usize) {
     let mut book = [0u8; 44];
     write_book(&mut book, 1, 1, 1, 1);
-    book_calls(b"output a byte short", key, way, &mut book, 43);
-    book_calls(b"output a byte long", key, way, &mut book, 45);
-    book_calls(b"output of 0 bytes", key, way, &mut book, 0);
+    book_calls(case, key, way, &mut book, size);
+}
+
+// Check 4.
+pub fn outputs(key: &[u8], way: u64) {
+    output_of(b"output a byte short", key, way, 43);
+    output_of(b"output a byte long", key, way, 45);
+    output_of(b"output of 0 bytes", key, way, 0);
 }
 
 // A book of 65,540 bytes that is right but for its length.
@@ -37,14 +42,25 @@ pub fn lengths(key: &[u8], way: u64) {
     too_long(key, way);
 }
 
-// A right book but for its first byte, which neither call permits.
-fn first_byte(case: &[u8], key: &[u8], way: u64, value: u8) {
-    let mut book = [0u8; 44];
-    let mut output = [0u8; 44];
-    write_book(&mut book, 1, 1, 1, 1);
-    put(&mut book, 0, value);
-    encrypt_book(case, key, way, &book, &mut output);
-    decrypt_book(case, key, way, &book, &mut output);
+// Both calls on a first byte that neither permits.
+fn neither(case: &[u8], key: &[u8], way: u64, value: u8, book: &mut [u8], output: &mut [u8]) {
+    put(book, 0, value);
+    encrypt_book(case, key, way, book, output);
+    decrypt_book(case, key, way, book, output);
+}
+
+// A book of one record, right but that its first byte is the one that the other call permits.
+fn exchanged(key: &[u8], way: u64, book: &mut [u8], output: &mut [u8]) {
+    write_book(book, 1, 1, 1, 1);
+    decrypt_book(b"first byte 1", key, way, book, output);
+    put(book, 0, 2);
+    encrypt_book(b"first byte 2", key, way, book, output);
+}
+
+fn first_bytes(key: &[u8], way: u64, book: &mut [u8], output: &mut [u8]) {
+    exchanged(key, way, book, output);
+    neither(b"first byte 0", key, way, 0, book, output);
+    neither(b"first byte 3", key, way, 3, book, output);
 }
 
 // A right book but for one byte past the first. The first entry stands at 4, the second at 28.
@@ -57,14 +73,7 @@ fn changed(case: &[u8], key: &[u8], way: u64, at: usize, value: u8) {
 
 // Check 6.
 pub fn heads(key: &[u8], way: u64) {
-    let mut book = [0u8; 44];
-    let mut output = [0u8; 44];
-    write_book(&mut book, 1, 1, 1, 1);
-    decrypt_book(b"first byte 1", key, way, &book, &mut output);
-    put(&mut book, 0, 2);
-    encrypt_book(b"first byte 2", key, way, &book, &mut output);
-    first_byte(b"first byte 0", key, way, 0);
-    first_byte(b"first byte 3", key, way, 3);
+    first_bytes(key, way, &mut [0u8; 44], &mut [0u8; 44]);
     changed(b"second byte 1", key, way, 1, 1);
 }
 

@@ -1,11 +1,11 @@
--- `edges::report::fill` ends and writes only what is there: the place is at most the length, and stores keep the length.
+-- `samples::outputs::fill` ends and writes only what is there: the place is at most the length, and stores keep the length.
 use Prim.Native.Nat.{_≤_, _-_}
 use mathlib.Core.Path.{_≡_}
 use native.Mathlib.Omega.{arith}
 use lib.ListN.{length, length-set}
 use borrow.Author.Needs.{needs}
-use Rattle.edges.proofs.report.fill.Statement.{statement}
-use Rattle.edges.proofs.report.fill.Tie as tie
+use Rattle.samples.proofs.outputs.fill.Statement.{statement}
+use Rattle.samples.proofs.outputs.fill.Tie as tie
 
 abbrev Inv-loop : tie.InvT-loop
 Inv-loop output₀ i₀ output i = (i ≤ length output) × (length output ≡ length output₀)

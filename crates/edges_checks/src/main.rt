@@ -1,13 +1,10 @@
-// Every edge of the exported calls by running: what each check refuses and what it lets through, and which of two failing checks answers.
+// The edges of checks 1 to 10 by running: what each refuses and what it lets through. The program edges_books has check 11 and whole books.
 //
 // Each line says the call, the case, the way, and what came of it. Before each call every byte of the lent output is given one value, so that
 // a refused call that wrote would show. The file stdout comes from the rules in docs/FORMAT.md and never from this program: a script of its own
-// judged each case by them, and the few encrypted bytes are those of another CLEFIA.
-mod books;
+// judged each case by them.
 mod forms;
 mod keys;
-mod pairs;
-mod records;
 mod report;
 
 // The cases of one way, with a key of 16 bytes.
@@ -20,25 +17,6 @@ fn by_way(key: &[u8], way: u64) {
     forms::sheets(key, way);
     forms::entries(key, way);
     forms::sizes(key, way);
-    records::fields(key, way);
-    records::last_sheet(key, way);
-    records::accepted(key, way);
-    pairs::lengths(key, way);
-    pairs::forms(key, way);
-    pairs::records(key, way);
-}
-
-// Books under one key by every way.
-fn by_key(key: &[u8]) {
-    console::say(b"key of ");
-    console::say_number(key.len() as u64);
-    console::say(b" bytes\n");
-    records::written(key, 1);
-    records::written(key, 2);
-    records::written(key, 3);
-    records::largest(key, 1, 2);
-    records::largest(key, 2, 3);
-    records::largest(key, 3, 1);
 }
 
 fn main() {
@@ -47,14 +25,11 @@ fn main() {
     keys::constants_keys();
     keys::constants_outputs();
     keys::ways(&long[..16]);
-    pairs::keys_and_ways(&long[..16], &long[..15]);
+    keys::pairs(&long[..16], &long[..15]);
     keys::expanded_keys(&long[..16], &long[..24], long, 1);
     keys::expanded_keys(&long[..16], &long[..24], long, 2);
     keys::expanded_keys(&long[..16], &long[..24], long, 3);
     by_way(&long[..16], 1);
     by_way(&long[..16], 2);
     by_way(&long[..16], 3);
-    by_key(&long[..16]);
-    by_key(&long[..24]);
-    by_key(long);
 }

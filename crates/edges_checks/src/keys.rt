@@ -1,11 +1,12 @@
 // Checks 1 to 4: keys, ways, blocks, and outputs of words and blocks.
+use crate::forms::output_of;
 use crate::report::block_calls;
-use crate::report::book_of;
 use crate::report::constants;
 use crate::report::expand_key;
+use reports::book_of;
 
 // Every call that takes a key, with lengths that are right for a key of 16 bytes.
-pub fn every_call(case: &[u8], key: &[u8], way: u64) {
+fn every_call(case: &[u8], key: &[u8], way: u64) {
     expand_key(case, key, way, 160);
     block_calls(case, key, way, 16, 16);
     book_of(case, key, way, 1, 1, 1, 44);
@@ -51,7 +52,16 @@ pub fn constants_outputs() {
     constants(b"key length 32, output of 368 bytes", 32, 368);
 }
 
-// Checks 3 and 4.
+// Two checks fail at once, and the earlier one answers: 1 and 4, 1 and 2, 2 and 4, 2 and 3, 2 and 4.
+pub fn pairs(key: &[u8], odd: &[u8]) {
+    constants(b"key length 15, output of 239 bytes", 15, 239);
+    every_call(b"key of 15 bytes", odd, 0);
+    expand_key(b"output of 159 bytes", key, 4, 159);
+    block_calls(b"block of 15 bytes", key, 0, 15, 16);
+    output_of(b"output of 43 bytes", key, 4, 43);
+}
+
+// Checks 3 and 4, and in the last case both.
 pub fn blocks(key: &[u8], way: u64) {
     block_calls(b"block of 0 bytes", key, way, 0, 16);
     block_calls(b"block of 15 bytes", key, way, 15, 16);
@@ -60,6 +70,7 @@ pub fn blocks(key: &[u8], way: u64) {
     block_calls(b"output of 15 bytes", key, way, 16, 15);
     block_calls(b"output of 17 bytes", key, way, 16, 17);
     block_calls(b"block and output of 16 bytes", key, way, 16, 16);
+    block_calls(b"block of 15 bytes, output of 17", key, way, 15, 17);
 }
 
 // Check 4 at each key length.

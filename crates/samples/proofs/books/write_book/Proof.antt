@@ -1,11 +1,11 @@
--- `edges::books::write_book` ends, and its places stay small: each sheet passed takes 24 bytes of contents and the bytes of at most 65,535 records.
+-- `samples::books::write_book` ends, and its places stay small: each sheet passed takes 24 bytes of contents and the bytes of at most 65,535 records.
 use Prim.Native.Nat.{_+_, _*_, _≤_}
 use mathlib.Core.Path.{_≡_}
 use native.Mathlib.Omega.{arith}
 use lib.ListN.{length}
 use borrow.Author.Needs.{needs}
-use Rattle.edges.proofs.books.write_book.Statement.{statement}
-use Rattle.edges.proofs.books.write_book.Tie as tie
+use Rattle.samples.proofs.books.write_book.Statement.{statement}
+use Rattle.samples.proofs.books.write_book.Tie as tie
 
 abbrev Inv-loop : tie.InvT-loop
 Inv-loop book₀ first sheets each last next₀ left₀ entry₀ at₀ book next left entry at =

@@ -1,0 +1,59 @@
+// Outputs to lend: every byte holds one value before a call, so that a refused call that wrote would show.
+use console::say;
+use console::say_answer;
+use console::say_number;
+ghost use Rattle.io.specs.Counts.{Counts};
+
+// What a lent output holds before each call.
+const PATTERN: u8 = 165;
+
+pub fn fill(output: &mut [u8]) {
+    let mut i = 0;
+    while i < output.len() {
+        output[i] = PATTERN;
+        i += 1;
+    }
+}
+
+fn is_untouched(output: &[u8]) -> bool {
+    let mut i = 0;
+    while i < output.len() {
+        if output[i] != PATTERN {
+            return false;
+        }
+        i += 1;
+    }
+    true
+}
+
+// A line's start, the call, the case and the way, and the output made ready.
+pub fn begin(call: &[u8], case: &[u8], way: u64, output: &mut [u8]) {
+    say(call);
+    say(b", ");
+    say(case);
+    say(b", way ");
+    say_number(way);
+    say(b": ");
+    fill(output);
+}
+
+// The rest of the line: the check, the count, and whether the output was written.
+pub fn end(answer: u64, output: &[u8]) {
+    say_answer(answer);
+    if is_untouched(output) {
+        say(b", output untouched\n");
+    } else {
+        say(b", output written\n");
+    }
+}
+
+// A size, or the number of bytes there are where that is less.
+pub fn within(size: usize, bytes: &[u8]) -> usize
+    ensures { λ r. ⌜ Counts r (now (bytes .entry)) ⌝ }
+{
+    if size < bytes.len() {
+        size
+    } else {
+        bytes.len()
+    }
+}
