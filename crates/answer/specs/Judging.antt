@@ -1,12 +1,13 @@
 -- Laws of answers: checks that are made in groups, one after the other, answer as they do in one list.
 use Prim.Native.Nat.{ℕ}
-use mathlib.Core.Path.{_≡_, _∙_}
+use mathlib.Core.Path.{_≡_, refl, _∙_}
 use mathlib.Core.Bool.{true, false}
 use mathlib.Core.List.{List, [], _∷_, _++_}
 use native.Mathlib.Omega.{arith}
+use Rattle.answer.specs.declared.Answer.{Answer}
 use Rattle.answer.specs.declared.Answer.the-variants.{Accepted, Refused}
-use Rattle.answer.specs.Answer.{answerOf}
-use Rattle.planbook_spec.specs.Outcome.{Outcome, refused, accepted, Check, check, judged}
+use Rattle.answer.specs.Answer.{answerOf, Given}
+use Rattle.planbook_spec.specs.Outcome.{Outcome, refused, accepted, after, Check, check, judged}
 use Rattle.planbook_spec.specs.OutcomeLaws.{AllPass, none, more, judged-append, judged-pass}
 
 -- A group that refuses, refuses all that begins with it.
@@ -33,3 +34,16 @@ stopped-first cs ds n o e = judged-append cs ds o ∙ stopped cs n (judged ds o)
 
 pub passed-first : (cs ds : List Check) (o : Outcome) → AllPass cs → judged (cs ++ ds) o ≡ judged ds o
 passed-first cs ds o p = judged-append cs ds o ∙ judged-pass p (judged ds o)
+
+-- A refused call leaves the output as it was, and an accepted one gives it the outcome's bytes.
+pub given-refused : {o : Outcome} {c : ℕ} (out : List ℕ) → o ≡ refused c → Given o out (Refused c) out
+unfolding after
+given-refused out e = rw e (record { case = refl; output = refl })
+
+pub given-accepted : {o : Outcome} {n : ℕ} {bs : List ℕ} (out exit : List ℕ) → o ≡ accepted n bs → exit ≡ bs → Given o out (Accepted n) exit
+unfolding after
+given-accepted out exit e h = rw e (record { case = refl; output = h })
+
+-- The outcome by another name.
+pub given-same : {o o′ : Outcome} {out exit : List ℕ} {r : Answer} → o′ ≡ o → Given o out r exit → Given o′ out r exit
+given-same e g = rw e g

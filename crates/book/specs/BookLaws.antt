@@ -9,13 +9,13 @@ use lib.ListN.{length, take, set}
 use Rattle.answer.specs.declared.Answer.{Answer}
 use Rattle.answer.specs.declared.Answer.the-variants.{Accepted, Refused}
 use Rattle.answer.specs.Answer.{Given}
-use Rattle.planbook_spec.specs.Outcome.{Outcome, refused, accepted, after, judged}
+use Rattle.planbook_spec.specs.Outcome.{Outcome, refused, accepted, judged}
 use Rattle.planbook_spec.specs.Checks.{outputCheck}
 use Rattle.planbook_spec.specs.Book.{sheetCount, contents, bodies, recordCount, formChecks, eachBody, sheetsHold, recordsCheck, recoded, bookChecks}
 use Rattle.planbook_spec.specs.WalkLaws.{recoded-front, bodies-at}
 use Rattle.form.specs.Form.{formAnswer}
 use Rattle.form.specs.FormLaws.{Formed, formed}
-use Rattle.answer.specs.Judging.{stopped-first, passed-first, Went, went}
+use Rattle.answer.specs.Judging.{stopped-first, passed-first, Went, went, given-refused, given-accepted}
 use Rattle.sheet.specs.Recode.{recodedBody}
 use Rattle.book.specs.Bodies.{clearBody, recodedBook}
 
@@ -26,15 +26,6 @@ recoded-whole mark f {book} g e =
     let l : 4 ≤ length book = omega (arith, g .size) in
     rw (e, bodies-at book) (sym (recoded-front mark f book l))
 
--- A refused call leaves the output as it was, and an accepted one gives it the outcome's bytes.
-refused-given : {o : Outcome} {c : ℕ} (out : List ℕ) → o ≡ refused c → Given o out (Refused c) out
-unfolding after
-refused-given out e = rw e (record { case = refl; output = refl })
-
-accepted-given : {o : Outcome} {n : ℕ} {bs : List ℕ} (out : List ℕ) → o ≡ accepted n bs → Given o out (Accepted n) bs
-unfolding after
-accepted-given out e = rw e (record { case = refl; output = refl })
-
 -- What checks 5 to 10 give, once passed.
 pub form-given : (mark : ℕ) (book : List ℕ) {records : ℕ} → Accepted records ≡ formAnswer mark book → Formed book
 form-given mark book e = formed mark book (went (formChecks mark book) (recordCount (contents book)) e .checks)
@@ -42,7 +33,7 @@ form-given mark book e = formed mark book (went (formChecks mark book) (recordCo
 module _ (mark to : ℕ) (w book out : List ℕ) where
   pub wrong-output : (length out ≡ length book → ⊥) → Given (recodedBook mark to w book out) out (Refused 4) out
   unfolding bookChecks outputCheck judged
-  wrong-output h = refused-given out (rw (ne-eqb _ _ h))
+  wrong-output h = given-refused out (rw (ne-eqb _ _ h))
 
   module _ (same : length out ≡ length book) where
     -- Check 4 passed.
@@ -53,7 +44,7 @@ module _ (mark to : ℕ) (w book out : List ℕ) where
     pub wrong-form : {r : Answer} {c : ℕ} → r ≡ formAnswer mark book → r ≡ Refused c → Given (recodedBook mark to w book out) out r out
     wrong-form e h =
         rw h
-        (refused-given out
+        (given-refused out
         (after-output _ ∙ stopped-first (formChecks mark book) (recordsCheck (clearBody mark w) book ∷ []) (recordCount (contents book)) _ (sym h ∙ e)))
 
     module _ {records : ℕ} (e : Accepted records ≡ formAnswer mark book) where
@@ -69,7 +60,7 @@ module _ (mark to : ℕ) (w book out : List ℕ) where
       one-failed h = rw h
 
       pub wrong-records : sheetsHold (clearBody mark w) (contents book) (bodies book) ≡ false → Given (recodedBook mark to w book out) out (Refused 11) out
-      wrong-records h = refused-given out (after-form _ ∙ one-failed h)
+      wrong-records h = given-refused out (after-form _ ∙ one-failed h)
 
       all-passed : sheetsHold (clearBody mark w) (contents book) (bodies book) ≡ true
           → judged (recordsCheck (clearBody mark w) book ∷ []) (accepted (recordCount (contents book)) (recoded to (recodedBody mark w) book))
@@ -79,4 +70,4 @@ module _ (mark to : ℕ) (w book out : List ℕ) where
 
       pub right-book : sheetsHold (clearBody mark w) (contents book) (bodies book) ≡ true
           → Given (recodedBook mark to w book out) out (Accepted records) (recoded to (recodedBody mark w) book)
-      right-book h = accepted-given out (after-form _ ∙ all-passed h)
+      right-book h = given-accepted out _ (after-form _ ∙ all-passed h) refl

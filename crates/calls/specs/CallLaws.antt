@@ -15,30 +15,15 @@ use Rattle.clefia_spec.specs.KeySchedule.{expandKey}
 use Rattle.clefia_spec.specs.Block.{encryptUnder, decryptUnder}
 use Rattle.ffunction.specs.Tables.{wordTables, byteTables, Lent}
 use Rattle.answer.specs.Answer.{Given}
-use Rattle.answer.specs.Judging.{stopped, Went, went}
+use Rattle.answer.specs.Judging.{stopped, Went, went, given-refused, given-same}
 use Rattle.answer.specs.declared.Answer.{Answer}
 use Rattle.answer.specs.declared.Answer.the-variants.{Accepted, Refused}
-use Rattle.planbook_spec.specs.Outcome.{Outcome, refused, accepted, after, judged}
+use Rattle.planbook_spec.specs.Outcome.{Outcome, refused, accepted, judged}
 use Rattle.planbook_spec.specs.OutcomeLaws.{AllPass, judged-pass, pass-check}
 use Rattle.planbook_spec.specs.Checks.{keyAndWay, keyCheck, outputCheck, constantCount, expandedCount, constantsCall}
 use Rattle.planbook_spec.specs.CheckLaws.{key-permitted, key-accepted, key-refused}
 use Rattle.calls.specs.declared.Task.{Task}
-use Rattle.calls.specs.Tasks.{keyAnswer, codedUnder, performed, under, performed-under, keyedCall}
-
--- ---- an answer from its outcome
-
--- the call is refused, and the output stays
-pub given-refused : {o : Outcome} {c : ℕ} (out : List ℕ) → o ≡ refused c → Given o out (Refused c) out
-unfolding after
-given-refused out e = rw e (record { case = refl; output = refl })
-
-pub given-accepted : {o : Outcome} {n : ℕ} {bs : List ℕ} (out exit : List ℕ) → o ≡ accepted n bs → exit ≡ bs → Given o out (Accepted n) exit
-unfolding after
-given-accepted out exit e h = rw e (record { case = refl; output = h })
-
--- the outcome by another name
-pub given-same : {o o′ : Outcome} {out exit : List ℕ} {r : Answer} → o′ ≡ o → Given o out r exit → Given o′ out r exit
-given-same e g = rw e g
+use Rattle.calls.specs.Tasks.{keyAnswer, codedUnder, performed, under, keyedCall}
 
 -- no check is left
 pub no-checks : (o : Outcome) → judged [] o ≡ o
@@ -117,9 +102,9 @@ expanded-small thirtyTwo = lit≤ tt
 
 -- a task done under the words of the expanded key
 pub given-performed : {task t : Task} {w : List ℕ} (key src out : List ℕ) {exit : List ℕ} {r : Answer} → task ≡ t → w ≡ expandKey key
-    → length w ≡ byKeyLength (length key) 40 48 56 → Given (under t w src out) out r exit → Given (performed task key src out) out r exit
-unfolding expandedCount
-given-performed {t = t} key src out h e l g = rw h (given-same (performed-under t key src out e l) g)
+    → length w ≡ byKeyLength (length key) 40 48 56 → Given (under t (length w) w src out) out r exit → Given (performed task key src out) out r exit
+unfolding performed expandedCount
+given-performed key src out h e l g = rw (h, ← e, ← l) g
 
 pub given-constants : {n size : ℕ} {ws out exit : List ℕ} {r : Answer} → KeyLength n → size ≡ n → ws ≡ constants n
     → Given (judged (outputCheck (4 * length ws) out ∷ []) (accepted (length ws) (bytesOf ws))) out r exit → Given (constantsCall size out) out r exit

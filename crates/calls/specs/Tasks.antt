@@ -2,7 +2,7 @@
 use Prim.Native.Nat.{ℕ, _*_}
 use mathlib.Core.Bool.{Bool, true, false}
 use mathlib.Core.List.{List, [], _∷_}
-use mathlib.Core.Path.{_≡_, refl}
+use mathlib.Core.Path.{_≡_}
 use lib.ListN.{length}
 use Rattle.clefia_spec.specs.Words.{bytesOf}
 use Rattle.clefia_spec.specs.KeySchedule.{expandKey}
@@ -29,51 +29,38 @@ codedUnder false w block = encryptUnder w block
 unfoldable pub blockUnder : Bool → List ℕ → List ℕ → List ℕ → Outcome
 blockUnder d w block out = judged (blockCheck block ∷ outputCheck 16 out ∷ []) (accepted 1 (codedUnder d w block))
 
+-- What a task answers under n expanded words w.
+unfoldable pub under : Task → ℕ → List ℕ → List ℕ → List ℕ → Outcome
+under ExpandKey n w src out = judged (outputCheck (4 * n) out ∷ []) (accepted n (bytesOf w))
+under EncryptBlock n w src out = blockUnder false w src out
+under DecryptBlock n w src out = blockUnder true w src out
+under EncryptBook n w src out = encryptBookBy [] (encryptUnder w) src out
+under DecryptBook n w src out = decryptBookBy [] (decryptUnder w) src out
+
+-- Under a key.
 unfoldable pub performed : Task → List ℕ → List ℕ → List ℕ → Outcome
-performed ExpandKey key src out =
-    judged (outputCheck (4 * expandedCount (length key)) out ∷ []) (accepted (expandedCount (length key)) (bytesOf (expandKey key)))
-performed EncryptBlock key src out = blockUnder false (expandKey key) src out
-performed DecryptBlock key src out = blockUnder true (expandKey key) src out
-performed EncryptBook key src out = encryptBookBy [] (encryptUnder (expandKey key)) src out
-performed DecryptBook key src out = decryptBookBy [] (decryptUnder (expandKey key)) src out
+performed task key src out = under task (expandedCount (length key)) (expandKey key) src out
 
 unfoldable pub keyedCall : Task → List ℕ → ℕ → List ℕ → List ℕ → Outcome
 keyedCall task key way src out = judged (keyAndWay key way) (performed task key src out)
 
--- The same under words w.
-unfoldable pub under : Task → List ℕ → List ℕ → List ℕ → Outcome
-under ExpandKey w src out = judged (outputCheck (4 * length w) out ∷ []) (accepted (length w) (bytesOf w))
-under EncryptBlock w src out = blockUnder false w src out
-under DecryptBlock w src out = blockUnder true w src out
-under EncryptBook w src out = encryptBookBy [] (encryptUnder w) src out
-under DecryptBook w src out = decryptBookBy [] (decryptUnder w) src out
-
-pub performed-under : (task : Task) {w : List ℕ} (key src out : List ℕ) → w ≡ expandKey key → length w ≡ expandedCount (length key)
-    → performed task key src out ≡ under task w src out
-unfolding performed under
-performed-under ExpandKey key src out e l = rw (← e, ← l)
-performed-under EncryptBlock key src out e l = rw (← e)
-performed-under DecryptBlock key src out e l = rw (← e)
-performed-under EncryptBook key src out e l = rw (← e)
-performed-under DecryptBook key src out e l = rw (← e)
-
 -- Each call is the one with its task.
 pub expand-key-keyed : (key : List ℕ) (way : ℕ) (out : List ℕ) → expandKeyCall key way out ≡ keyedCall ExpandKey key way [] out
-unfolding expandKeyCall keyedCall performed
+unfolding expandKeyCall keyedCall performed under
 expand-key-keyed key way out = judged-append (keyAndWay key way) _ _
 
 pub encrypt-block-keyed : (key : List ℕ) (way : ℕ) (block out : List ℕ) → encryptBlockCall key way block out ≡ keyedCall EncryptBlock key way block out
-unfolding encryptBlockCall blockChecks encrypt keyedCall performed blockUnder codedUnder
+unfolding encryptBlockCall blockChecks encrypt keyedCall performed under blockUnder codedUnder
 encrypt-block-keyed key way block out = judged-append (keyAndWay key way) _ _
 
 pub decrypt-block-keyed : (key : List ℕ) (way : ℕ) (block out : List ℕ) → decryptBlockCall key way block out ≡ keyedCall DecryptBlock key way block out
-unfolding decryptBlockCall blockChecks decrypt keyedCall performed blockUnder codedUnder
+unfolding decryptBlockCall blockChecks decrypt keyedCall performed under blockUnder codedUnder
 decrypt-block-keyed key way block out = judged-append (keyAndWay key way) _ _
 
 pub encrypt-book-keyed : (key : List ℕ) (way : ℕ) (book out : List ℕ) → encryptBookCall key way book out ≡ keyedCall EncryptBook key way book out
-unfolding encryptBookCall encrypt keyedCall performed encryptBookBy bookChecks
+unfolding encryptBookCall encrypt keyedCall performed under encryptBookBy bookChecks
 encrypt-book-keyed key way book out = judged-append (keyAndWay key way) _ _
 
 pub decrypt-book-keyed : (key : List ℕ) (way : ℕ) (book out : List ℕ) → decryptBookCall key way book out ≡ keyedCall DecryptBook key way book out
-unfolding decryptBookCall decrypt keyedCall performed decryptBookBy bookChecks
+unfolding decryptBookCall decrypt keyedCall performed under decryptBookBy bookChecks
 decrypt-book-keyed key way book out = judged-append (keyAndWay key way) _ _

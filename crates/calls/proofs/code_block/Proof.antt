@@ -4,7 +4,8 @@ use borrow.Author.Tests.{eq-eqb, ne-eqb}
 use Rattle.planbook_spec.specs.OutcomeLaws.{judged-true, judged-false}
 use Rattle.planbook_spec.specs.Checks.{blockCheck, outputCheck}
 use Rattle.calls.specs.Tasks.{blockUnder}
-use Rattle.calls.specs.CallLaws.{given-refused, given-accepted, no-checks, decrypted, encrypted}
+use Rattle.answer.specs.Judging.{given-refused, given-accepted}
+use Rattle.calls.specs.CallLaws.{no-checks, decrypted, encrypted}
 use borrow.Author.Needs.{needs}
 use Rattle.calls.proofs.code_block.Statement.{statement}
 use Rattle.calls.proofs.code_block.Tie as tie

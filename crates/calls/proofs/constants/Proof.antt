@@ -1,6 +1,7 @@
 -- `calls::constants` meets its contract: for each key length its constants, and otherwise check 1.
 use Rattle.clefia_spec.specs.Words.{sixteen, twentyFour, thirtyTwo}
-use Rattle.calls.specs.CallLaws.{given-refused, given-constants, constants-refused}
+use Rattle.answer.specs.Judging.{given-refused}
+use Rattle.calls.specs.CallLaws.{given-constants, constants-refused}
 use borrow.Author.Needs.{needs}
 use Rattle.calls.proofs.constants.Statement.{statement}
 use Rattle.calls.proofs.constants.Tie as tie

@@ -1,7 +1,7 @@
 -- `calls::expand_key` meets its contract: it is the keyed call with its task.
 use borrow.Author.Needs.{needs}
 use Rattle.calls.specs.Tasks.{expand-key-keyed}
-use Rattle.calls.specs.CallLaws.{given-same}
+use Rattle.answer.specs.Judging.{given-same}
 use Rattle.calls.proofs.expand_key.Statement.{statement}
 use Rattle.calls.proofs.expand_key.Tie as tie
 

@@ -4,7 +4,7 @@ use mathlib.Core.List.{[]}
 use Rattle.planbook_spec.specs.Checks.{outputCheck}
 use Rattle.planbook_spec.specs.OutcomeLaws.{judged-true, judged-false}
 use Rattle.planbook_spec.specs.Outcome.{judged}
-use Rattle.calls.specs.CallLaws.{given-refused, given-accepted}
+use Rattle.answer.specs.Judging.{given-refused, given-accepted}
 use borrow.Author.Needs.{needs}
 use Rattle.calls.proofs.write_words.Statement.{statement}
 use Rattle.calls.proofs.write_words.Tie as tie
