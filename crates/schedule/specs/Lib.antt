@@ -1,3 +1,4 @@
 pub mod Swap
 pub mod Steps
 pub mod Keys
+pub mod Tests

@@ -1,1 +1,1 @@
-pub mod ColumnsOfS1
+pub mod Tests
