@@ -156,7 +156,8 @@ fn keyed_call(task: Task, key: &[u8], way: u64, src: &[u8], out: &mut [u8]) -> A
     };
     let n = count as usize;
     let mut w = [0u32; 56];
-    perform_by(task, way, key, &mut w[..n], src, out)
+    // Parts, as in perform.
+    perform_by(task, way, &key[..], &mut w[..n], &src[..], out)
 }
 
 pub fn expand_key(key: &[u8], way: u64, out: &mut [u8]) -> Answer
