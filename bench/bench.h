@@ -25,6 +25,12 @@ struct scale {
     double encrypt_ns, decrypt_ns;
 };
 
+/* The thread's own time, so that other work on the machine counts for less. */
+double now_ns(void);
+
+/* Whether another load shares the core just now. */
+int core_is_shared(void);
+
 const struct task *find_task(enum kind kind, size_t records, size_t key_len, uint64_t way);
 
 /* The median: of a call, or of a record where the task is a book. */

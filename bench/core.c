@@ -1,0 +1,37 @@
+/*
+ * Whether another load shares the core. The two threads of a core share its
+ * units, so a loop of independent additions, which keeps them all busy, takes
+ * half as long again or more beside another load. The clock rate alone moves
+ * it by less than a third.
+ */
+#include "bench.h"
+
+#include <math.h>
+
+enum { ROUNDS = 20000, FIRST_LOOKS = 10000 };
+static const double SHARED_ABOVE = 1.35;
+
+static double quietest_ns = INFINITY;
+
+static double look(void)
+{
+    uint64_t a = 1, b = 2, c = 3, d = 4, e = 5, f = 6;
+    double start = now_ns();
+    for (uint64_t i = 0; i < ROUNDS; i++) {
+        a += i, b += i, c += i, d += i, e += i, f += i;
+        /* the compiler may neither drop nor merge what passes here */
+        __asm__ volatile("" : "+r"(a), "+r"(b), "+r"(c), "+r"(d), "+r"(e), "+r"(f));
+    }
+    double ns = now_ns() - start;
+    quietest_ns = fmin(quietest_ns, ns);
+    return ns;
+}
+
+int core_is_shared(void)
+{
+    /* some tenths of a second to learn how fast the loop can be */
+    while (isinf(quietest_ns))
+        for (int i = 0; i < FIRST_LOOKS; i++)
+            look();
+    return look() > SHARED_ABOVE * quietest_ns;
+}
