@@ -1,53 +1,27 @@
 -- What the calls cite: a call peeled check by check, and the sizes that go with a permitted key.
-use Prim.Native.Nat.{ℕ, _+_, _*_, _≤_, _<_}
-use mathlib.Core.Bool.{Bool, true, false, not, _||_}
+use Prim.Native.Nat.{ℕ, _*_, _≤_, _<_}
 use mathlib.Core.Logic.{_≢_}
 use mathlib.Core.List.{List, [], _∷_}
 use mathlib.Core.Path.{_≡_, refl, sym, ap, _∙_}
 use native.Mathlib.Omega.{arith}
-use borrow.Author.Tests.{not-true, not-false}
-use lib.Dec.{eqb, lit≤, lit<}
+use lib.Dec.{lit≤, lit<}
 use lib.ListN.{length, take, length-take}
 use Rattle.clefia_spec.specs.Words.{bytesOf, byKeyLength, KeyLength, sixteen, twentyFour, thirtyTwo}
 use Rattle.clefia_spec.specs.Constants.{constants}
 use Rattle.clefia_spec.specs.KeyLaws.{length-constants}
 use Rattle.clefia_spec.specs.KeySchedule.{expandKey}
-use Rattle.clefia_spec.specs.Block.{encryptUnder, decryptUnder}
 use Rattle.ffunction.specs.Tables.{wordTables, byteTables, Lent}
 use Rattle.answer.specs.Answer.{Given}
 use Rattle.answer.specs.Judging.{stopped, Went, went, given-refused, given-same}
 use Rattle.answer.specs.declared.Answer.{Answer}
 use Rattle.answer.specs.declared.Answer.the-variants.{Accepted, Refused}
-use Rattle.planbook_spec.specs.Outcome.{Outcome, refused, accepted, judged}
-use Rattle.planbook_spec.specs.OutcomeLaws.{AllPass, judged-pass, pass-check}
-use Rattle.planbook_spec.specs.Checks.{keyAndWay, keyCheck, outputCheck, constantCount, expandedCount, constantsCall}
+use Rattle.planbook_spec.specs.Outcome.{refused, accepted, judged}
+use Rattle.planbook_spec.specs.OutcomeLaws.{AllPass, judged-pass}
+use Rattle.planbook_spec.specs.Checks.{keyAndWay, outputCheck, constantCount, expandedCount, constantsCall}
 use Rattle.planbook_spec.specs.CheckLaws.{key-permitted, key-accepted, key-refused}
 use Rattle.calls.specs.declared.Task.{Task}
-use Rattle.calls.specs.Tasks.{keyAnswer, codedUnder, performed, under, keyedCall}
-
--- no check is left
-pub no-checks : (o : Outcome) → judged [] o ≡ o
-unfolding judged
-no-checks o = refl
-
--- ---- a test that the code made, by its result r
-
-pub failed : {r t : Bool} → r ≡ t → not r ≡ true → t ≡ false
-failed {r} e h = sym e ∙ not-true r h
-
-pub passed : {r t : Bool} → r ≡ t → not r ≡ false → t ≡ true
-passed {r} e h = sym e ∙ not-false r h
-
--- ---- checks 1 and 2
-
-pub expanded-size : (n : ℕ) → eqb n 16 || eqb n 24 || eqb n 32 ≡ true → 24 + n ≡ expandedCount n
-unfolding keyCheck expandedCount
-expanded-size n e = size (key-permitted {n = n} {cs = []} (pass-check e))
-  where
-    size : {n : ℕ} → KeyLength n → 24 + n ≡ byKeyLength n 40 48 56
-    size sixteen = refl
-    size twentyFour = refl
-    size thirtyTwo = refl
+use Rattle.checks.specs.Under.{keyAnswer}
+use Rattle.calls.specs.Tasks.{performed, under, keyedCall}
 
 -- what is known of a key and a way that passed, with the count that was answered
 pub record Keyed (key : List ℕ) (way n : ℕ) : Type 0 where
@@ -95,17 +69,6 @@ pub constants-checked : {n : ℕ} (out : List ℕ) → KeyLength n
 unfolding constantsCall constantCount
 constants-checked {n} out k = key-accepted _ _ k ∙ ap (λ (m : ℕ). judged (outputCheck (4 * m) out ∷ []) (accepted m (bytesOf (constants n)))) (sym (length-constants k))
 
-pub expanded-small : {n : ℕ} → KeyLength n → byKeyLength n 40 48 56 ≤ 92
-expanded-small sixteen = lit≤ tt
-expanded-small twentyFour = lit≤ tt
-expanded-small thirtyTwo = lit≤ tt
-
--- a task done under the words of the expanded key
-pub given-performed : {task t : Task} {w : List ℕ} (key src out : List ℕ) {exit : List ℕ} {r : Answer} → task ≡ t → w ≡ expandKey key
-    → length w ≡ byKeyLength (length key) 40 48 56 → Given (under t (length w) w src out) out r exit → Given (performed task key src out) out r exit
-unfolding performed expandedCount
-given-performed key src out h e l g = rw (h, ← e, ← l) g
-
 pub given-constants : {n size : ℕ} {ws out exit : List ℕ} {r : Answer} → KeyLength n → size ≡ n → ws ≡ constants n
     → Given (judged (outputCheck (4 * length ws) out ∷ []) (accepted (length ws) (bytesOf ws))) out r exit → Given (constantsCall size out) out r exit
 given-constants {out = out} k s e g = rw (s, constants-checked out k, ← e) g
@@ -114,20 +77,23 @@ pub constants-refused : (size : ℕ) (out : List ℕ) → size ≢ 16 → size �
 unfolding constantsCall
 constants-refused size out a b c = key-refused _ _ size a b c
 
--- ---- one block, by the test that the code made
+-- ---- the sizes of an expanded key
 
-pub decrypted : {d : Bool} (w block : List ℕ) {exit : List ℕ} → d ≡ true → exit ≡ decryptUnder w block → exit ≡ codedUnder d w block
-unfolding codedUnder
-decrypted w block e g = rw e g
-
-pub encrypted : {d : Bool} (w block : List ℕ) {exit : List ℕ} → d ≡ false → exit ≡ encryptUnder w block → exit ≡ codedUnder d w block
-unfolding codedUnder
-encrypted w block e g = rw e g
+pub expanded-small : {n : ℕ} → KeyLength n → byKeyLength n 40 48 56 ≤ 92
+expanded-small sixteen = lit≤ tt
+expanded-small twentyFour = lit≤ tt
+expanded-small thirtyTwo = lit≤ tt
 
 pub expanded-large : {n m : ℕ} → KeyLength n → m ≡ byKeyLength n 40 48 56 → 4 ≤ m
 expanded-large sixteen e = rw e (lit≤ tt)
 expanded-large twentyFour e = rw e (lit≤ tt)
 expanded-large thirtyTwo e = rw e (lit≤ tt)
+
+-- ---- a task done under the words of the expanded key
+pub given-performed : {task t : Task} {w : List ℕ} (key src out : List ℕ) {exit : List ℕ} {r : Answer} → task ≡ t → w ≡ expandKey key
+    → length w ≡ byKeyLength (length key) 40 48 56 → Given (under t (length w) w src out) out r exit → Given (performed task key src out) out r exit
+unfolding performed expandedCount
+given-performed key src out h e l g = rw (h, ← e, ← l) g
 
 -- ---- the tables that are lent: the words alone, the bytes alone, or none
 

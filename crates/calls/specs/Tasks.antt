@@ -1,33 +1,19 @@
 -- The calls that take a key, as one call with a task: what each task answers once checks 1 and 2 are passed.
 use Prim.Native.Nat.{ℕ, _*_}
-use mathlib.Core.Bool.{Bool, true, false}
+use mathlib.Core.Bool.{true, false}
 use mathlib.Core.List.{List, [], _∷_}
 use mathlib.Core.Path.{_≡_}
 use lib.ListN.{length}
 use Rattle.clefia_spec.specs.Words.{bytesOf}
 use Rattle.clefia_spec.specs.KeySchedule.{expandKey}
 use Rattle.clefia_spec.specs.Block.{encryptUnder, decryptUnder, encrypt, decrypt}
-use Rattle.answer.specs.Answer.{answerOf}
-use Rattle.answer.specs.declared.Answer.{Answer}
 use Rattle.planbook_spec.specs.Outcome.{Outcome, accepted, judged}
 use Rattle.planbook_spec.specs.OutcomeLaws.{judged-append}
-use Rattle.planbook_spec.specs.Checks.{keyAndWay, blockCheck, outputCheck, expandedCount, expandKeyCall, blockChecks, encryptBlockCall, decryptBlockCall}
+use Rattle.planbook_spec.specs.Checks.{keyAndWay, outputCheck, expandedCount, expandKeyCall, blockChecks, encryptBlockCall, decryptBlockCall}
 use Rattle.planbook_spec.specs.Book.{bookChecks, encryptBookBy, decryptBookBy, encryptBookCall, decryptBookCall}
+use Rattle.checks.specs.Under.{codedUnder, blockUnder}
 use Rattle.calls.specs.declared.Task.{Task}
 use Rattle.calls.specs.declared.Task.the-variants.{ExpandKey, EncryptBlock, DecryptBlock, EncryptBook, DecryptBook}
-
--- Checks 1 and 2; the count is that of the expanded key's words.
-abbrev pub keyAnswer : List ℕ → ℕ → Answer
-keyAnswer key way = answerOf (judged (keyAndWay key way) (accepted (expandedCount (length key)) []))
-
--- One block decrypted (true) or encrypted (false) under expanded words.
-unfoldable pub codedUnder : Bool → List ℕ → List ℕ → List ℕ
-codedUnder true w block = decryptUnder w block
-codedUnder false w block = encryptUnder w block
-
--- Checks 3 and 4, and then the block.
-unfoldable pub blockUnder : Bool → List ℕ → List ℕ → List ℕ → Outcome
-blockUnder d w block out = judged (blockCheck block ∷ outputCheck 16 out ∷ []) (accepted 1 (codedUnder d w block))
 
 -- What a task answers under n expanded words w.
 unfoldable pub under : Task → ℕ → List ℕ → List ℕ → List ℕ → Outcome

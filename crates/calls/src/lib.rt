@@ -1,97 +1,27 @@
-// The calls as the rest of the program sees them: checks 1 to 4, the tables fetched, the key expanded, the core called. The answer is an enum.
+// The calls as the rest of the program sees them: checks 1 and 2, the tables fetched, the key expanded, the core called. The answer is an enum.
 ghost use mathlib.Core.Path.{_≡_};
-ghost use mathlib.Core.Bool.{_||_};
-ghost use mathlib.Core.List.{[], _∷_};
-ghost use lib.Dec.{eqb};
 ghost use lib.ListN.{length};
-ghost use Prim.Native.Nat.{_*_, _≤_};
-ghost use Rattle.clefia_spec.specs.Words.{bytesOf, byKeyLength, KeyLength};
+ghost use Rattle.clefia_spec.specs.Words.{byKeyLength, KeyLength};
 ghost use Rattle.ffunction.specs.Tables.{Lent};
-ghost use Rattle.planbook_spec.specs.Outcome.{accepted, judged};
-ghost use Rattle.planbook_spec.specs.Checks.{outputCheck, constantsCall, expandKeyCall, encryptBlockCall, decryptBlockCall};
+ghost use Rattle.planbook_spec.specs.Checks.{constantsCall, expandKeyCall, encryptBlockCall, decryptBlockCall};
 ghost use Rattle.answer.specs.Answer.{Given};
-ghost use Rattle.calls.specs.Tasks.{keyAnswer, blockUnder, performed, keyedCall};
+ghost use Rattle.calls.specs.Tasks.{performed, keyedCall};
 ghost use Rattle.planbook_spec.specs.Book.{encryptBookCall, decryptBookCall};
 use answer::Answer;
-
-// A number is one of three, compared whole.
-fn one_of(n: u64, a: u64, b: u64, c: u64) -> bool
-    ensures { λ r. ⌜ r ≡ (eqb n a || eqb n b || eqb n c) ⌝ }
-{
-    if n == a {
-        return true;
-    }
-    if n == b {
-        return true;
-    }
-    n == c
-}
-
-// Check 4, and then the words as bytes; the count is that of the words.
-fn write_words(src: &[u32], out: &mut [u8]) -> Answer
-    requires { ⌜ length (now src) ≤ 92 ⌝ }
-    ensures { λ r. ⌜ Given (judged (outputCheck (4 * length (now (src .entry))) (now (out .entry)) ∷ []) (accepted (length (now (src .entry))) (bytesOf (now (src .entry))))) (now (out .entry)) r (now (out .exit)) ⌝ }
-{
-    if out.len() != 4 * src.len() {
-        return Answer::Refused(4);
-    }
-    rows::store_all(out, src);
-    Answer::Accepted(src.len() as u64)
-}
 
 pub fn constants(size: u64, out: &mut [u8]) -> Answer
     ensures { λ r. ⌜ Given (constantsCall size (now (out .entry))) (now (out .entry)) r (now (out .exit)) ⌝ }
 {
     if size == 16 {
-        return write_words(&schedule::constants::sixteen(), out);
+        return checks::write_words(&schedule::constants::sixteen(), out);
     }
     if size == 24 {
-        return write_words(&schedule::constants::twenty_four(), out);
+        return checks::write_words(&schedule::constants::twenty_four(), out);
     }
     if size == 32 {
-        return write_words(&schedule::constants::thirty_two(), out);
+        return checks::write_words(&schedule::constants::thirty_two(), out);
     }
     Answer::Refused(1)
-}
-
-// Checks 1 and 2, with which every call that takes a key begins. The count is that of the expanded key's words.
-fn check_key(key: &[u8], way: u64) -> Answer
-    ensures { λ r. ⌜ r ≡ keyAnswer (now (key .entry)) way ⌝ }
-{
-    if !one_of(key.len() as u64, 16, 24, 32) {
-        return Answer::Refused(1);
-    }
-    if !one_of(way, 1, 2, 3) {
-        return Answer::Refused(2);
-    }
-    Answer::Accepted(24 + key.len() as u64)
-}
-
-// Checks 3 and 4, and then one block decrypted or encrypted under expanded words.
-fn code_block(
-    decrypting: bool,
-    words: &[[u32; 256]],
-    bytes: &[[u8; 256]],
-    w: &[u32],
-    block: &[u8],
-    out: &mut [u8],
-) -> Answer
-    requires { ⌜ Lent (now words) (now bytes) ⌝ }
-    requires { ⌜ 4 ≤ length (now w) ⌝ }
-    ensures { λ r. ⌜ Given (blockUnder decrypting (now (w .entry)) (now (block .entry)) (now (out .entry))) (now (out .entry)) r (now (out .exit)) ⌝ }
-{
-    if block.len() != 16 {
-        return Answer::Refused(3);
-    }
-    if out.len() != 16 {
-        return Answer::Refused(4);
-    }
-    if decrypting {
-        block::decrypt_block(words, bytes, w, block, out);
-        return Answer::Accepted(1);
-    }
-    block::encrypt_block(words, bytes, w, block, out);
-    Answer::Accepted(1)
 }
 
 // What a call does with its key once checks 1 and 2 are passed.
@@ -123,9 +53,9 @@ fn perform(
     let bs = &bytes[..];
     schedule::expand_key(ws, bs, key, w);
     match task {
-        Task::ExpandKey => write_words(w, out),
-        Task::EncryptBlock => code_block(false, ws, bs, w, src, out),
-        Task::DecryptBlock => code_block(true, ws, bs, w, src, out),
+        Task::ExpandKey => checks::write_words(w, out),
+        Task::EncryptBlock => checks::code_block(false, ws, bs, w, src, out),
+        Task::DecryptBlock => checks::code_block(true, ws, bs, w, src, out),
         Task::EncryptBook => book::encrypt_book(ws, bs, w, src, out),
         Task::DecryptBook => book::decrypt_book(ws, bs, w, src, out),
     }
@@ -150,7 +80,7 @@ fn perform_by(task: Task, way: u64, key: &[u8], w: &mut [u32], src: &[u8], out: 
 fn keyed_call(task: Task, key: &[u8], way: u64, src: &[u8], out: &mut [u8]) -> Answer
     ensures { λ r. ⌜ Given (keyedCall task (now (key .entry)) way (now (src .entry)) (now (out .entry))) (now (out .entry)) r (now (out .exit)) ⌝ }
 {
-    let checked = check_key(key, way);
+    let checked = checks::check_key(key, way);
     let Answer::Accepted(count) = checked else {
         return checked;
     };

@@ -1,14 +1,14 @@
--- `calls::code_block` meets its contract: checks 3 and 4 peeled off, and then the block.
+-- `checks::code_block` meets its contract: checks 3 and 4 peeled off, and then the block.
 use mathlib.Core.Path.{_∙_}
 use borrow.Author.Tests.{eq-eqb, ne-eqb}
 use Rattle.planbook_spec.specs.OutcomeLaws.{judged-true, judged-false}
 use Rattle.planbook_spec.specs.Checks.{blockCheck, outputCheck}
-use Rattle.calls.specs.Tasks.{blockUnder}
+use Rattle.checks.specs.Under.{blockUnder}
 use Rattle.answer.specs.Judging.{given-refused, given-accepted}
-use Rattle.calls.specs.CallLaws.{no-checks, decrypted, encrypted}
+use Rattle.checks.specs.Laws.{no-checks, decrypted, encrypted}
 use borrow.Author.Needs.{needs}
-use Rattle.calls.proofs.code_block.Statement.{statement}
-use Rattle.calls.proofs.code_block.Tie as tie
+use Rattle.checks.proofs.code_block.Statement.{statement}
+use Rattle.checks.proofs.code_block.Tie as tie
 
 returns : tie.Need-returns
 unfolding blockUnder blockCheck

@@ -1,13 +1,13 @@
--- `calls::check_key` meets its contract: check 1, and then check 2.
+-- `checks::check_key` meets its contract: check 1, and then check 2.
 use mathlib.Core.Path.{sym, ap, _∙_}
 use borrow.Author.Needs.{needs}
 use Rattle.answer.specs.Answer.{answerOf}
 use Rattle.answer.specs.declared.Answer.the-variants.{Accepted}
 use Rattle.planbook_spec.specs.OutcomeLaws.{judged-true, judged-false}
 use Rattle.planbook_spec.specs.Checks.{keyCheck, wayCheck}
-use Rattle.calls.specs.CallLaws.{no-checks, failed, passed, expanded-size}
-use Rattle.calls.proofs.check_key.Statement.{statement}
-use Rattle.calls.proofs.check_key.Tie as tie
+use Rattle.checks.specs.Laws.{no-checks, failed, passed, expanded-size}
+use Rattle.checks.proofs.check_key.Statement.{statement}
+use Rattle.checks.proofs.check_key.Tie as tie
 
 one-of-requires : tie.Need-one-of-requires
 one-of-requires c κs = search needs

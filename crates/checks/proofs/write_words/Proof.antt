@@ -1,4 +1,4 @@
--- `calls::write_words` meets its contract: check 4 is its one test.
+-- `checks::write_words` meets its contract: check 4 is its one test.
 use borrow.Author.Tests.{eq-eqb, ne-eqb}
 use mathlib.Core.List.{[]}
 use Rattle.planbook_spec.specs.Checks.{outputCheck}
@@ -6,8 +6,8 @@ use Rattle.planbook_spec.specs.OutcomeLaws.{judged-true, judged-false}
 use Rattle.planbook_spec.specs.Outcome.{judged}
 use Rattle.answer.specs.Judging.{given-refused, given-accepted}
 use borrow.Author.Needs.{needs}
-use Rattle.calls.proofs.write_words.Statement.{statement}
-use Rattle.calls.proofs.write_words.Tie as tie
+use Rattle.checks.proofs.write_words.Statement.{statement}
+use Rattle.checks.proofs.write_words.Tie as tie
 
 mul-if1 : tie.Need-mul-if1
 mul-if1 c = search needs

@@ -1,7 +1,7 @@
--- `calls::one_of` meets its contract: the tests that led to each answer decide the definition.
+-- `checks::one_of` meets its contract: the tests that led to each answer decide the definition.
 use borrow.Author.Tests.{eq-eqb, ne-eqb}
-use Rattle.calls.proofs.one_of.Statement.{statement}
-use Rattle.calls.proofs.one_of.Tie as tie
+use Rattle.checks.proofs.one_of.Statement.{statement}
+use Rattle.checks.proofs.one_of.Tie as tie
 
 returns : tie.Need-returns
 returns c = simp (eq-eqb _ _ (c .if1 .taken))
