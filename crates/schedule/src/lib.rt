@@ -4,12 +4,15 @@ pub mod constants;
 ghost use mathlib.Core.Path.{_≡_};
 ghost use mathlib.Core.List.{_++_};
 ghost use Prim.Native.Nat.{_+_, _*_, _/_, _≤_};
-ghost use lib.ListN.{length, take, drop};
+ghost use lib.ListN.{length, take};
 ghost use Rattle.clefia_spec.specs.Words.{fourAt, wordsOf, byKeyLength, KeyLength};
 ghost use Rattle.clefia_spec.specs.KeySchedule.{doubleSwap, stepKeys, roundKeys, expandShort, expandLong, extendKey, expandKey};
 ghost use Rattle.rows.specs.Rows.{putFour};
 ghost use Rattle.schedule.specs.Steps.{Own};
 ghost use Rattle.ffunction.specs.Tables.{Lent};
+use network8::first_half;
+use network8::joined;
+use network8::second_half;
 
 // The bits of four words in another order: 7 to 63, 121 to 127, 0 to 6, 64 to 120.
 fn double_swap(x: [u32; 4]) -> [u32; 4]
@@ -97,24 +100,6 @@ fn expand_short(words: &[[u32; 256]], bytes: &[[u8; 256]], k: [u32; 4], w: &mut 
     round_keys(4, 24, &con, 9, k, k, l, l, w);
 }
 
-fn joined(a: [u32; 4], b: [u32; 4]) -> [u32; 8]
-    ensures { λ r. ⌜ r ≡ a ++ b ⌝ }
-{
-    [a[0], a[1], a[2], a[3], b[0], b[1], b[2], b[3]]
-}
-
-fn first_half(s: [u32; 8]) -> [u32; 4]
-    ensures { λ r. ⌜ r ≡ take 4 s ⌝ }
-{
-    [s[0], s[1], s[2], s[3]]
-}
-
-fn second_half(s: [u32; 8]) -> [u32; 4]
-    ensures { λ r. ⌜ r ≡ drop 4 s ⌝ }
-{
-    [s[4], s[5], s[6], s[7]]
-}
-
 // KL and KR of a longer key, its constants and its number of steps.
 fn expand_long(
     words: &[[u32; 256]],
@@ -130,7 +115,7 @@ fn expand_long(
     requires { ⌜ length (now w) ≡ 4 + 4 * n ⌝ }
     ensures { λ r. ⌜ now (w .exit) ≡ expandLong (now (con .entry)) n kl kr ⌝ }
 {
-    let l = network::network8(words, bytes, con, 10, 0, joined(kl, kr));
+    let l = network8::network8(words, bytes, con, 10, 0, joined(kl, kr));
     rows::put_four(w, 0, rows::xors4(kl, kr));
     round_keys(2, 40, con, n, kr, kl, first_half(l), second_half(l), w);
 }

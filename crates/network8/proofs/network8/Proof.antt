@@ -1,13 +1,13 @@
--- `network::network8` meets its contract.
+-- `network8::network8` meets its contract.
 use Prim.Native.Nat.{_+_, _*_, _≤_, _<_}
 use mathlib.Core.Path.{_≡_, _∙_, ap}
 use lib.ListN.{length}
 use borrow.Author.Needs.{needs}
 use Rattle.clefia_spec.specs.FFunction.{f0, f1}
 use Rattle.clefia_spec.specs.Network.{rotateRight, rounds, network}
 use Rattle.network.specs.Laws.{rounds-step, rounds-end}
-use Rattle.network.proofs.network8.Statement.{statement}
-use Rattle.network.proofs.network8.Tie as tie
+use Rattle.network8.proofs.network8.Statement.{statement}
+use Rattle.network8.proofs.network8.Tie as tie
 
 abbrev Inv-loop : tie.InvT-loop
 Inv-loop words bytes w n at t₀ left₀ i₀ t left i = (i + 4 * left ≤ length w) × (rounds 4 f0 f1 left w i t ≡ rounds 4 f0 f1 n w at t₀)

@@ -1,8 +1,8 @@
--- `schedule::joined` meets its contract.
+-- `network8::joined` meets its contract.
 use borrow.Author.Needs.{needs}
 use Rattle.rows.specs.Rows.{spelled, spell}
-use Rattle.schedule.proofs.joined.Statement.{statement}
-use Rattle.schedule.proofs.joined.Tie as tie
+use Rattle.network8.proofs.joined.Statement.{statement}
+use Rattle.network8.proofs.joined.Tie as tie
 
 array-read-t7 : tie.Need-array-read-t7
 array-read-t7 c = search needs

@@ -1,10 +1,10 @@
--- `network::feistel8` meets its contract.
+-- `network8::feistel8` meets its contract.
 use native.Mathlib.Nat.{add-assoc}
 use borrow.Author.Needs.{needs}
 use Rattle.clefia_spec.specs.Network.{feistel}
 use Rattle.rows.specs.Rows.{spelled, spell}
-use Rattle.network.proofs.feistel8.Statement.{statement}
-use Rattle.network.proofs.feistel8.Tie as tie
+use Rattle.network8.proofs.feistel8.Statement.{statement}
+use Rattle.network8.proofs.feistel8.Tie as tie
 
 mul-f0 : tie.Need-mul-f0
 mul-f0 c = search needs
