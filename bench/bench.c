@@ -3,13 +3,11 @@
  * both sides are held to the published test vectors, and each task's outputs
  * to each other. Prints Markdown; bench/run puts it into docs/BENCH.md.
  */
-#define _GNU_SOURCE
 #include "bench.h"
 #include "plain.h"
 #include "planbook.h"
 
 #include <math.h>
-#include <sched.h>
 #include <stdio.h>
 #include <stdlib.h>
 #include <string.h>
@@ -19,7 +17,7 @@
 #include <openssl/evp.h>
 #endif
 
-enum { WARM_UP_TURNS = 2 };
+enum { WARM_UP_TURNS = 2, FEWEST_TURNS = 9, MOST_LOOKS = 100 };
 static const double TURN_NS = 4e5;
 static const double PATIENCE_NS = 120e9;
 
@@ -269,15 +267,16 @@ static void time_both(const struct task *t, int first, double ns[SIDES])
 
 static int timed_alone(const struct task *t, int first, double ns[SIDES])
 {
-    if (core_is_shared())
-        return 0;
+    for (int looks = 0; core_is_shared(); looks++)
+        if (looks == MOST_LOOKS)
+            return 0;
     time_both(t, first, ns);
     return !core_is_shared();
 }
 
 /*
- * A timing that another load on the core spoilt is made again, until the
- * patience of the whole run is spent.
+ * A timing that another load on the core spoilt is made again on the next CPU,
+ * until the patience of the whole run is spent.
  */
 static void time_task(const struct task *t, int first, double ns[SIDES])
 {
@@ -286,6 +285,7 @@ static void time_task(const struct task *t, int first, double ns[SIDES])
         double start = now_ns();
         if (timed_alone(t, first, ns))
             return;
+        take_next_cpu();
         waited_ns += now_ns() - start;
     }
     time_both(t, first, ns);
@@ -294,11 +294,16 @@ static void time_task(const struct task *t, int first, double ns[SIDES])
 
 /*
  * A turn goes through all tasks, so that a slow minute of the machine falls on
- * all alike. The side that begins changes with each turn.
+ * all alike. The side that begins changes with each turn. Rather fewer turns
+ * than disturbed ones.
  */
 static void measure_tasks(void)
 {
     for (int turn = -WARM_UP_TURNS; turn < turns; turn++) {
+        if (waited_ns >= PATIENCE_NS && turn >= FEWEST_TURNS) {
+            turns = turn;
+            break;
+        }
         if (turn % 10 == 0)
             fprintf(stderr, "bench: turn %d of %d\n", turn, turns);
         for (size_t i = 0; i < task_count; i++) {
@@ -407,6 +412,7 @@ static void print_machine(void)
         fclose(f);
     printf("- CPU:%s\n", model != NULL ? model + 1 : " not told by this system");
     printf("- C compiler: %s, flags %s\n", BENCH_COMPILER, BENCH_FLAGS);
+    printf("- Turns: %d\n", turns);
     printf("- Another load on the core: %.0f s were spent waiting for it to end or on timings that it spoilt; "
            "%d of %d timings were kept although it was there\n", waited_ns / 1e9, disturbed, timings);
 }
@@ -538,16 +544,6 @@ static void print_report(void)
     print_limits();
 }
 
-/* Staying on one CPU keeps its caches; where that is refused, the turns still even it out. */
-static void stay_on_one_cpu(void)
-{
-    cpu_set_t one;
-    CPU_ZERO(&one);
-    CPU_SET((size_t)sched_getcpu(), &one);
-    if (sched_setaffinity(0, sizeof one, &one) != 0)
-        fprintf(stderr, "bench: not pinned to one CPU\n");
-}
-
 static void usage(void)
 {
     stop("usage: bench [--turns N] [--svg FILE] [--strict]");
@@ -568,7 +564,7 @@ int main(int argc, char **argv)
             usage();
     if (turns < 1 || turns > MOST_TURNS)
         usage();
-    stay_on_one_cpu();
+    take_next_cpu();
     for (int side = 0; side < SIDES; side++)
         check_vectors(&sides[side]);
     check_constants();

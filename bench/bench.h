@@ -31,6 +31,9 @@ double now_ns(void);
 /* Whether another load shares the core just now. */
 int core_is_shared(void);
 
+/* Stays on one of the CPUs that this process may use, each in its turn. */
+void take_next_cpu(void);
+
 const struct task *find_task(enum kind kind, size_t records, size_t key_len, uint64_t way);
 
 /* The median: of a call, or of a record where the task is a book. */

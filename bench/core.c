@@ -4,9 +4,12 @@
  * half as long again or more beside another load. The clock rate alone moves
  * it by less than a third.
  */
+#define _GNU_SOURCE
 #include "bench.h"
 
 #include <math.h>
+#include <sched.h>
+#include <stdio.h>
 
 enum { ROUNDS = 20000, FIRST_LOOKS = 10000 };
 static const double SHARED_ABOVE = 1.35;
@@ -34,4 +37,21 @@ int core_is_shared(void)
         for (int i = 0; i < FIRST_LOOKS; i++)
             look();
     return look() > SHARED_ABOVE * quietest_ns;
+}
+
+/* Staying on one CPU keeps its caches; where that is refused, the turns still even it out. */
+void take_next_cpu(void)
+{
+    static cpu_set_t allowed;
+    static int cpu;
+    if (CPU_COUNT(&allowed) == 0)
+        sched_getaffinity(0, sizeof allowed, &allowed);
+    do
+        cpu = (cpu + 1) % CPU_SETSIZE;
+    while (CPU_COUNT(&allowed) > 0 && !CPU_ISSET((size_t)cpu, &allowed));
+    cpu_set_t one;
+    CPU_ZERO(&one);
+    CPU_SET((size_t)cpu, &one);
+    if (sched_setaffinity(0, sizeof one, &one) != 0)
+        fprintf(stderr, "bench: not pinned to one CPU\n");
 }

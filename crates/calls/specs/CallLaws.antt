@@ -2,7 +2,7 @@
 use Prim.Native.Nat.{ℕ, _*_, _≤_, _<_}
 use mathlib.Core.Logic.{_≢_}
 use mathlib.Core.List.{List, [], _∷_}
-use mathlib.Core.Path.{_≡_, refl, sym, ap, _∙_}
+use mathlib.Core.Path.{_≡_, sym, ap, _∙_}
 use native.Mathlib.Omega.{arith}
 use lib.Dec.{lit≤, lit<}
 use lib.ListN.{length, take, length-take}
@@ -46,14 +46,14 @@ keyed-passed task src out k g = given-same (judged-pass (k .checks) _) g
 
 -- ---- the words of the expanded key, at the front of 56
 
+pub expanded-range : {n m : ℕ} → KeyLength n → m ≡ byKeyLength n 40 48 56 → (4 ≤ m) × (m ≤ 56)
+expanded-range sixteen e = rw e (lit≤ tt, lit≤ tt)
+expanded-range twentyFour e = rw e (lit≤ tt, lit≤ tt)
+expanded-range thirtyTwo e = rw e (lit≤ tt, lit≤ tt)
+
 pub expanded-fits : {key : List ℕ} {way n : ℕ} → Keyed key way n → n ≤ 56
 unfolding expandedCount
-expanded-fits k = rw (k .count) (fits (k .long))
-  where
-    fits : {n : ℕ} → KeyLength n → byKeyLength n 40 48 56 ≤ 56
-    fits sixteen = lit≤ tt
-    fits twentyFour = lit≤ tt
-    fits thirtyTwo = lit≤ tt
+expanded-fits k = expanded-range (k .long) (k .count) .1
 
 pub prefix : {key : List ℕ} {way n : ℕ} (w : List ℕ) → Keyed key way n → length w ≡ 56 → n ≡ length (take n w)
 prefix {n = n} w k e = let h : n ≤ 56 = expanded-fits k in omega (arith, length-take n w)
@@ -76,18 +76,6 @@ given-constants {out = out} k s e g = rw (s, constants-checked out k, ← e) g
 pub constants-refused : (size : ℕ) (out : List ℕ) → size ≢ 16 → size ≢ 24 → size ≢ 32 → constantsCall size out ≡ refused 1
 unfolding constantsCall
 constants-refused size out a b c = key-refused _ _ size a b c
-
--- ---- the sizes of an expanded key
-
-pub expanded-small : {n : ℕ} → KeyLength n → byKeyLength n 40 48 56 ≤ 92
-expanded-small sixteen = lit≤ tt
-expanded-small twentyFour = lit≤ tt
-expanded-small thirtyTwo = lit≤ tt
-
-pub expanded-large : {n m : ℕ} → KeyLength n → m ≡ byKeyLength n 40 48 56 → 4 ≤ m
-expanded-large sixteen e = rw e (lit≤ tt)
-expanded-large twentyFour e = rw e (lit≤ tt)
-expanded-large thirtyTwo e = rw e (lit≤ tt)
 
 -- ---- a task done under the words of the expanded key
 pub given-performed : {task t : Task} {w : List ℕ} (key src out : List ℕ) {exit : List ℕ} {r : Answer} → task ≡ t → w ≡ expandKey key
