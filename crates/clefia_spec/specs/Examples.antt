@@ -10,7 +10,7 @@ use Rattle.clefia_spec.specs.Sbox.{ss0, ss1, ss2, ss3, s0, s1, bitOf, su
 use Rattle.clefia_spec.specs.FFunction.{m0, m1, entry, rowTimes, matrixTimes, substitute, f0, f1}
 use Rattle.clefia_spec.specs.Network.{feistel, rotateBranches, rounds, network, network4, network8}
 use Rattle.clefia_spec.specs.KeySchedule.{extendKey}
-use Rattle.clefia_spec.specs.Cases.{Case, _gives_, AllHold, done, _and_}
+use Rattle.clefia_spec.specs.Cases.{Case, _gives_, AllHold, allSame, computed}
 
 -- The 24-byte key of section 2.5. Its first four words are the 16-byte key.
 abbrev pub key24 : List ℕ
@@ -28,5 +28,5 @@ workedExamples =
     ∷ []
 
 pub workedExamples-hold : AllHold workedExamples
-unfolding workedExamples complement rotate fromDigits toDigits fourAt xors divideByZ evenConstant oddConstant constantsFrom firstT constants double addProduct product squares inverse ss0 ss1 ss2 ss3 s0 s1 bitOf sumOfBits affine fRows gRows m0 m1 entry rowTimes matrixTimes substitute f0 f1 feistel rotateBranches rounds network extendKey
-workedExamples-hold = _and_ refl (_and_ refl (_and_ refl done))
+unfolding workedExamples allSame complement rotate fromDigits toDigits fourAt xors divideByZ evenConstant oddConstant constantsFrom firstT constants double addProduct product squares inverse ss0 ss1 ss2 ss3 s0 s1 bitOf sumOfBits affine fRows gRows m0 m1 entry rowTimes matrixTimes substitute f0 f1 feistel rotateBranches rounds network extendKey
+workedExamples-hold = computed workedExamples refl

@@ -2,48 +2,14 @@
 -- both calls share, such as one chain that runs on through all sheets, or a check that lets too much through; these cases do.
 use Prim.Native.Nat.{ℕ, _+_, _*_, _^_}
 use mathlib.Core.List.{List, [], _∷_, _++_}
-use mathlib.Core.Bool.{Bool, true, false, _&&_, false≢true}
-use mathlib.Core.Path.{_≡_, refl, ap₂}
-use borrow.Author.Tests.{eqb-true}
-use lib.Dec.{eqb}
+use mathlib.Core.Path.{refl}
 use lib.ListN.{take, drop, set, replicate}
 use lib.Seq.{sets}
 use Rattle.clefia_spec.specs.Words.{fromDigits, xors}
-use Rattle.clefia_spec.specs.Cases.{Case, _gives_, AllHold, done, _and_}
+use Rattle.clefia_spec.specs.Cases.{Case, _gives_, AllHold, allSame, computed}
 use Rattle.planbook_spec.specs.Outcome.{answer, after, judged}
 use Rattle.planbook_spec.specs.Checks.{keyCheck, wayCheck, blockCheck, outputCheck, constantCount, expandedCount, constantsCall, expandKeyCall, blockChecks, encryptBlockCall, decryptBlockCall}
 use Rattle.planbook_spec.specs.Book.{number, pieces, entryHolds, entriesHold, recordHolds, allRecordsHold, recordCount, formChecks, eachBody, sheetsHold, recordsCheck, cbcEncrypt, cbcDecrypt, encryptBody, decryptBody, recoded, bookChecks, encryptBookBy, decryptBookBy, encryptBookCall, decryptBookCall}
-
--- A test that computes, of a whole list of cases.
-same : List ℕ → List ℕ → Bool
-same [] [] = true
-same [] (y ∷ ys) = false
-same (x ∷ xs) [] = false
-same (x ∷ xs) (y ∷ ys) = eqb x y && same xs ys
-
-allSame : List Case → Bool
-allSame [] = true
-allSame ((xs gives ys) ∷ cs) = same xs ys && allSame cs
-
-both : (a b : Bool) → a && b ≡ true → (a ≡ true) × (b ≡ true)
-both true b e = (refl, e)
-both false b e = absurd (false≢true e)
-
-same-equal : (xs ys : List ℕ) → same xs ys ≡ true → xs ≡ ys
-unfolding same
-same-equal [] [] e = refl
-same-equal [] (y ∷ ys) e = absurd (false≢true e)
-same-equal (x ∷ xs) [] e = absurd (false≢true e)
-same-equal (x ∷ xs) (y ∷ ys) e =
-    let h : (eqb x y ≡ true) × (same xs ys ≡ true) = both _ _ e in
-    ap₂ (λ (a : ℕ) (l : List ℕ). a ∷ l) (eqb-true x y (h .0)) (same-equal xs ys (h .1))
-
-computed : (cs : List Case) → allSame cs ≡ true → AllHold cs
-unfolding allSame
-computed [] e = done
-computed ((xs gives ys) ∷ cs) e =
-    let h : (same xs ys ≡ true) × (allSame cs ≡ true) = both _ _ e in
-    _and_ (same-equal xs ys (h .0)) (computed cs (h .1))
 
 -- The toy: the bytes of a block rotated by one place.
 abbrev pub toyEncrypt : List ℕ → List ℕ
@@ -135,7 +101,7 @@ bookCases =
     ∷ []
 
 pub bookCases-hold : AllHold bookCases
-unfolding bookCases allSame same fromDigits xors answer after judged outputCheck number pieces entryHolds entriesHold recordHolds allRecordsHold recordCount formChecks eachBody sheetsHold recordsCheck cbcEncrypt cbcDecrypt encryptBody decryptBody recoded bookChecks encryptBookBy decryptBookBy
+unfolding bookCases allSame fromDigits xors answer after judged outputCheck number pieces entryHolds entriesHold recordHolds allRecordsHold recordCount formChecks eachBody sheetsHold recordsCheck cbcEncrypt cbcDecrypt encryptBody decryptBody recoded bookChecks encryptBookBy decryptBookBy
 bookCases-hold = computed bookCases refl
 
 -- Checks 1 to 5, most with two or more that fail at once.
@@ -175,5 +141,5 @@ callCases =
     ∷ []
 
 pub callCases-hold : AllHold callCases
-unfolding callCases allSame same answer judged keyCheck wayCheck blockCheck outputCheck constantCount expandedCount constantsCall expandKeyCall blockChecks encryptBlockCall decryptBlockCall formChecks bookChecks encryptBookBy decryptBookBy encryptBookCall decryptBookCall
+unfolding callCases allSame answer judged keyCheck wayCheck blockCheck outputCheck constantCount expandedCount constantsCall expandKeyCall blockChecks encryptBlockCall decryptBlockCall formChecks bookChecks encryptBookBy decryptBookBy encryptBookCall decryptBookCall
 callCases-hold = computed callCases refl

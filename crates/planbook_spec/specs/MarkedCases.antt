@@ -9,7 +9,7 @@ use Rattle.clefia_spec.specs.Sbox.{ss0, ss1, ss2, ss3, s0, s1, bitOf, sumOfBits
 use Rattle.clefia_spec.specs.FFunction.{m0, m1, entry, rowTimes, matrixTimes, substitute, f0, f1}
 use Rattle.clefia_spec.specs.Network.{feistel, rotateBranches, rounds}
 use Rattle.clefia_spec.specs.KeySchedule.{bitRange, doubleSwapBits, doubleSwap}
-use Rattle.clefia_spec.specs.Cases.{Case, _gives_, AllHold, done, _and_}
+use Rattle.clefia_spec.specs.Cases.{Case, _gives_, AllHold, allSame, computed}
 use Rattle.planbook_spec.specs.Outcome.{Outcome, answer, after, judged}
 use Rattle.planbook_spec.specs.Checks.{keyCheck, wayCheck, outputCheck}
 use Rattle.planbook_spec.specs.Book.{number, pieces, entriesHold, recordCount, formChecks, eachBody, sheetsHold, recordsCheck, recoded, bookChecks, encryptBookBy, encryptBookCall}
@@ -38,5 +38,5 @@ markedCases =
     ∷ []
 
 pub markedCases-hold : AllHold markedCases
-unfolding markedCases complement rotate fromDigits toDigits digitsOf numbersOf divideByZ evenConstant oddConstant constantsFrom firstT constants double addProduct product squares inverse ss0 ss1 ss2 ss3 s0 s1 bitOf sumOfBits affine fRows gRows m0 m1 entry rowTimes matrixTimes substitute f0 f1 feistel rotateBranches rounds bitRange doubleSwapBits doubleSwap answer after judged keyCheck wayCheck outputCheck number pieces entriesHold recordCount formChecks eachBody sheetsHold recordsCheck recoded bookChecks encryptBookBy encryptBookCall
-markedCases-hold = _and_ refl (_and_ refl (_and_ refl (_and_ refl (_and_ refl (_and_ refl (_and_ refl (_and_ refl (_and_ refl (_and_ refl (_and_ refl (_and_ refl done)))))))))))
+unfolding markedCases allSame complement rotate fromDigits toDigits digitsOf numbersOf divideByZ evenConstant oddConstant constantsFrom firstT constants double addProduct product squares inverse ss0 ss1 ss2 ss3 s0 s1 bitOf sumOfBits affine fRows gRows m0 m1 entry rowTimes matrixTimes substitute f0 f1 feistel rotateBranches rounds bitRange doubleSwapBits doubleSwap answer after judged keyCheck wayCheck outputCheck number pieces entriesHold recordCount formChecks eachBody sheetsHold recordsCheck recoded bookChecks encryptBookBy encryptBookCall
+markedCases-hold = computed markedCases refl
