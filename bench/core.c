@@ -43,7 +43,9 @@ int core_is_shared(void)
 void take_next_cpu(void)
 {
     static cpu_set_t allowed;
-    static int cpu;
+    static int cpu, refused;
+    if (refused)
+        return;
     if (CPU_COUNT(&allowed) == 0)
         sched_getaffinity(0, sizeof allowed, &allowed);
     do
@@ -52,6 +54,7 @@ void take_next_cpu(void)
     cpu_set_t one;
     CPU_ZERO(&one);
     CPU_SET((size_t)cpu, &one);
-    if (sched_setaffinity(0, sizeof one, &one) != 0)
+    refused = sched_setaffinity(0, sizeof one, &one) != 0;
+    if (refused)
         fprintf(stderr, "bench: not pinned to one CPU\n");
 }
