@@ -1,8 +1,8 @@
 /*
  * Whether another load shares the core. The two threads of a core share its
- * units, so a loop of independent additions, which keeps them all busy, takes
- * half as long again or more beside another load. The clock rate alone moves
- * it by less than a third.
+ * units, so a loop of independent additions, which keeps them busy and touches
+ * no memory, takes longer beside another load. docs/DECISIONS.md has the
+ * measurement that the bound below is taken from.
  */
 #define _GNU_SOURCE
 #include "bench.h"
