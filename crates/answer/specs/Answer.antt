@@ -1,7 +1,7 @@
 -- What each case of the program's answer means: the number of document 01, and the outcome that it stands for.
 use Prim.Native.Nat.{ℕ, _*_, _^_}
 use mathlib.Core.List.{List}
-use mathlib.Core.Path.{_≡_, refl, ap, _∙_}
+use mathlib.Core.Path.{_≡_, refl, sym, ap, _∙_}
 use Rattle.planbook_spec.specs.Outcome.{Outcome, refused, accepted, answer, after, Answers}
 use Rattle.answer.specs.declared.Answer.{Answer}
 use Rattle.answer.specs.declared.Answer.the-variants.{Accepted, Refused}
@@ -25,6 +25,10 @@ number-answerOf (accepted n bs) = refl
 pub record Given (o : Outcome) (out : List ℕ) (r : Answer) (exit : List ℕ) : Type 0 where
   pub case : r ≡ answerOf o
   pub output : exit ≡ after out o
+
+-- It pins both: two answers to one outcome, with one lent output, are equal.
+pub given-equal : {o : Outcome} {out : List ℕ} {r r′ : Answer} {exit exit′ : List ℕ} → Given o out r exit → Given o out r′ exit′ → (r ≡ r′) × (exit ≡ exit′)
+given-equal g h = (g .case ∙ sym (h .case), g .output ∙ sym (h .output))
 
 -- The same with the number in place of the case: what the border to C states.
 pub answers : {o : Outcome} {out : List ℕ} {r : Answer} {exit : List ℕ} {n : ℕ} → Given o out r exit → n ≡ numberOf r → Answers o out n exit

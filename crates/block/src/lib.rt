@@ -1,8 +1,8 @@
 // One block of 16 bytes, encrypted and decrypted under expanded words. (Document 01's terms are sealing and opening a block.)
 ghost use mathlib.Core.Path.{_≡_};
-ghost use Prim.Native.Nat.{_≤_};
+ghost use Prim.Native.Nat.{_-_, _/_, _≤_};
 ghost use lib.ListN.{length};
-ghost use Rattle.clefia_spec.specs.Block.{whiten, roundCount, encryptWords, decryptWords, encryptUnder, decryptUnder};
+ghost use Rattle.clefia_spec.specs.Block.{whiten, encryptWords, decryptWords, encryptUnder, decryptUnder};
 ghost use Rattle.ffunction.specs.Tables.{Lent};
 
 fn whiten(a: u32, b: u32, s: [u32; 4]) -> [u32; 4]
@@ -14,7 +14,7 @@ fn whiten(a: u32, b: u32, s: [u32; 4]) -> [u32; 4]
 // 18, 22 or 26 rounds, by the number of words.
 fn round_count(w: &[u32]) -> usize
     requires { ⌜ 4 ≤ length (now w) ⌝ }
-    ensures { λ r. ⌜ r ≡ roundCount (now (w .entry)) ⌝ }
+    ensures { λ r. ⌜ r ≡ (length (now (w .entry)) - 4) / 2 ⌝ }
 {
     (w.len() - 4) / 2
 }

@@ -7,9 +7,10 @@ use native.Mathlib.Omega.{arith}
 use borrow.Rule.Slice.PartMut.{putMid}
 use lib.ListN.{length, take, drop}
 use Rattle.planbook_spec.specs.Book.{count, pieces, sheetHolds, sheetCount, contents, bodies, recordCount, sheetsHold, eachBody}
-use Rattle.planbook_spec.specs.WalkLaws.{count-next, count-done, body-next, sheet-next, sheet-broken, bodies-done, sheets-done, bodies-at}
-use Rattle.form.specs.FormLaws.{Formed}
-use Rattle.sheet.specs.ChainLaws.{fill-part, length-part, filled}
+use Rattle.planbook_spec.specs.WalkLaws.{count-next, body-next, sheets-next, bodies-at}
+use Rattle.planbook_spec.specs.BookLaws.{Formed}
+use Rattle.sheet.specs.ChainLaws.{fill-part, length-part}
+use Rattle.rows.specs.Rows.{fill-end}
 use Rattle.book.specs.Bodies.{entryAt}
 
 pub record Placed (book : List ℕ) (from at left : ℕ) : Type 0 where
@@ -49,13 +50,14 @@ module _ (f : List ℕ → List ℕ → List ℕ) {book : List ℕ} {from at lef
   clear = f (entryAt book from) (take (16 * count (entryAt book from)) (drop at book))
 
   pub tested-broken : 0 < left → sheetHolds (entryAt book from) clear ≡ false → false ≡ sheetsHold f (contents book) (bodies book)
-  tested-broken h e = sym (sheet-broken f left from at book h e) ∙ t .tested
+  tested-broken h e = sym (sheets-next f left from at book h e) ∙ t .tested
 
   pub tested-step : 0 < left → sheetHolds (entryAt book from) clear ≡ true → Tested f book (from + 24) (at + 16 * count (entryAt book from)) (left - 1)
-  tested-step h e = record { placed = next (t .placed) h .placed; tested = sym (sheet-next f left from at book h e) ∙ t .tested }
+  tested-step h e = record { placed = next (t .placed) h .placed; tested = sym (sheets-next f left from at book h e) ∙ t .tested }
 
   pub tested-end : left ≡ 0 → true ≡ sheetsHold f (contents book) (bodies book)
-  tested-end z = sym (sheets-done f from book (drop at book)) ∙ (rw z at (t .tested))
+  unfolding sheetsHold pieces
+  tested-end z = rw z at (t .tested)
 
 -- ---- bodies filled up to `at`, and those to come, make the whole; o is the output at first
 
@@ -90,6 +92,7 @@ module _ (f : List ℕ → List ℕ → List ℕ) {book o out : List ℕ} {from 
       }
 
   pub filled-end : left ≡ 0 → out ≡ take (4 + 24 * sheetCount book) o ++ eachBody f (contents book) (bodies book)
+  unfolding eachBody recordCount pieces
   filled-end z =
-      let r : at + 16 * 0 ≡ length book = rw (z, count-done) at (w .placed .rest) in
-      filled at out (omega (arith, w .long)) (rw (z, bodies-done) at (w .whole))
+      let r : at + 16 * 0 ≡ length book = rw z at (w .placed .rest) in
+      fill-end out at _ (omega (arith, w .long)) (rw z at (w .whole))

@@ -1,11 +1,11 @@
-// The bodies of all sheets recoded, one after the other. `mark` is the first byte of the book: 1 where it is clear, and 2 where it is encrypted.
+// The bodies of all sheets encrypted or decrypted, one after the other.
 ghost use mathlib.Core.Path.{_≡_};
 ghost use mathlib.Core.List.{_++_};
 ghost use Prim.Native.Nat.{_+_, _*_, _≤_};
 ghost use lib.ListN.{length, take};
 ghost use Rattle.planbook_spec.specs.Book.{count, sheetCount, contents, bodies, eachBody};
 ghost use Rattle.ffunction.specs.Tables.{Lent};
-ghost use Rattle.form.specs.FormLaws.{Formed};
+ghost use Rattle.planbook_spec.specs.BookLaws.{Formed};
 ghost use Rattle.sheet.specs.Recode.{recodedBody};
 ghost use Rattle.book.specs.Bodies.{entryAt};
 use form::entry;
@@ -21,7 +21,7 @@ pub fn body_end(book: &[u8], from: usize, at: usize) -> usize
 
 // Each body recoded where it stood, and the front of the output left as it was.
 pub fn recode_bodies(
-    mark: u8,
+    decrypting: bool,
     words: &[[u32; 256]],
     bytes: &[[u8; 256]],
     w: &[u32],
@@ -30,7 +30,7 @@ pub fn recode_bodies(
 )
     requires { ⌜ Lent (now words) (now bytes) ⌝ }
     requires { ⌜ (4 ≤ length (now w)) × Formed (now book) × (length (now out) ≡ length (now book)) ⌝ }
-    ensures { λ r. ⌜ now (out .exit) ≡ take (4 + 24 * sheetCount (now (book .entry))) (now (out .entry)) ++ eachBody (recodedBody mark (now (w .entry))) (contents (now (book .entry))) (bodies (now (book .entry))) ⌝ }
+    ensures { λ r. ⌜ now (out .exit) ≡ take (4 + 24 * sheetCount (now (book .entry))) (now (out .entry)) ++ eachBody (recodedBody decrypting (now (w .entry))) (contents (now (book .entry))) (bodies (now (book .entry))) ⌝ }
 {
     let mut left = entry::half(book, 2);
     let mut from = 4;
@@ -39,7 +39,7 @@ pub fn recode_bodies(
         let next = from + 24;
         let end = body_end(book, from, at);
         recode::recode_sheet(
-            mark,
+            decrypting,
             words,
             bytes,
             w,

@@ -5,6 +5,7 @@ pub mod front;
 pub mod records;
 
 ghost use mathlib.Core.Path.{_≡_};
+ghost use mathlib.Core.Bool.{true, not};
 ghost use mathlib.Core.List.{[]};
 ghost use Prim.Native.Nat.{_≤_};
 ghost use lib.ListN.{length};
@@ -12,15 +13,21 @@ ghost use Rattle.clefia_spec.specs.Block.{encryptUnder, decryptUnder};
 ghost use Rattle.planbook_spec.specs.Book.{recoded, encryptBookBy, decryptBookBy};
 ghost use Rattle.answer.specs.Answer.{Given};
 ghost use Rattle.ffunction.specs.Tables.{Lent};
-ghost use Rattle.form.specs.FormLaws.{Formed};
+ghost use Rattle.planbook_spec.specs.BookLaws.{Formed};
 ghost use Rattle.sheet.specs.Recode.{recodedBody};
-ghost use Rattle.book.specs.Bodies.{recodedBook};
+ghost use Rattle.book.specs.Bodies.{Ready, markOf, bookAnswer, recodedBook};
 use answer::Answer;
 
-// The other book, with the first byte `to`.
+// The first byte of the book that a call is given: 2 where it is encrypted, and so to be decrypted, else 1.
+fn mark(decrypting: bool) -> u8
+    ensures { λ r. ⌜ r ≡ markOf decrypting ⌝ }
+{
+    if decrypting { 2 } else { 1 }
+}
+
+// The other book.
 fn write_book(
-    mark: u8,
-    to: u8,
+    decrypting: bool,
     words: &[[u32; 256]],
     bytes: &[[u8; 256]],
     w: &[u32],
@@ -29,16 +36,36 @@ fn write_book(
 )
     requires { ⌜ Lent (now words) (now bytes) ⌝ }
     requires { ⌜ (4 ≤ length (now w)) × Formed (now book) × (length (now out) ≡ length (now book)) ⌝ }
-    ensures { λ r. ⌜ now (out .exit) ≡ recoded to (recodedBody mark (now (w .entry))) (now (book .entry)) ⌝ }
+    ensures { λ r. ⌜ now (out .exit) ≡ recoded (markOf (not decrypting)) (recodedBody decrypting (now (w .entry))) (now (book .entry)) ⌝ }
 {
-    front::copy_front(to, book, out);
-    bodies::recode_bodies(mark, words, bytes, w, book, out);
+    front::copy_front(mark(!decrypting), book, out);
+    bodies::recode_bodies(decrypting, words, bytes, w, book, out);
 }
 
-// Checks 4 to 11 of a book with the first byte `mark`; then the other book, with the first byte `to`. Nothing is written before the last check.
+// Checks 5 to 11, by themselves. The count is that of the records. Of a clear book nothing else need be lent.
+pub fn check_book(
+    decrypting: bool,
+    words: &[[u32; 256]],
+    bytes: &[[u8; 256]],
+    w: &[u32],
+    book: &[u8],
+) -> Answer
+    requires { ⌜ (decrypting ≡ true → Ready (now words) (now bytes) (now w)) ⌝ }
+    ensures { λ r. ⌜ r ≡ bookAnswer decrypting (now (w .entry)) (now (book .entry)) ⌝ }
+{
+    let form = form::check_form(mark(decrypting), book);
+    let Answer::Accepted(records) = form else {
+        return form;
+    };
+    if !records::records_hold(decrypting, words, bytes, w, book) {
+        return Answer::Refused(11);
+    }
+    Answer::Accepted(records)
+}
+
+// Checks 4 to 11, and then the other book. Nothing is written before the last check.
 fn recode_book(
-    mark: u8,
-    to: u8,
+    decrypting: bool,
     words: &[[u32; 256]],
     bytes: &[[u8; 256]],
     w: &[u32],
@@ -47,20 +74,17 @@ fn recode_book(
 ) -> Answer
     requires { ⌜ Lent (now words) (now bytes) ⌝ }
     requires { ⌜ 4 ≤ length (now w) ⌝ }
-    ensures { λ r. ⌜ Given (recodedBook mark to (now (w .entry)) (now (book .entry)) (now (out .entry))) (now (out .entry)) r (now (out .exit)) ⌝ }
+    ensures { λ r. ⌜ Given (recodedBook decrypting (now (w .entry)) (now (book .entry)) (now (out .entry))) (now (out .entry)) r (now (out .exit)) ⌝ }
 {
     if out.len() != book.len() {
         return Answer::Refused(4);
     }
-    let form = form::check_form(mark, book);
-    let Answer::Accepted(records) = form else {
-        return form;
+    let checked = check_book(decrypting, words, bytes, w, book);
+    let Answer::Accepted(count) = checked else {
+        return checked;
     };
-    if !records::records_hold(mark, words, bytes, w, book) {
-        return Answer::Refused(11);
-    }
-    write_book(mark, to, words, bytes, w, book, out);
-    Answer::Accepted(records)
+    write_book(decrypting, words, bytes, w, book, out);
+    Answer::Accepted(count)
 }
 
 pub fn encrypt_book(
@@ -74,7 +98,7 @@ pub fn encrypt_book(
     requires { ⌜ 4 ≤ length (now w) ⌝ }
     ensures { λ r. ⌜ Given (encryptBookBy [] (encryptUnder (now (w .entry))) (now (book .entry)) (now (out .entry))) (now (out .entry)) r (now (out .exit)) ⌝ }
 {
-    recode_book(1, 2, words, bytes, w, book, out)
+    recode_book(false, words, bytes, w, book, out)
 }
 
 pub fn decrypt_book(
@@ -88,5 +112,5 @@ pub fn decrypt_book(
     requires { ⌜ 4 ≤ length (now w) ⌝ }
     ensures { λ r. ⌜ Given (decryptBookBy [] (decryptUnder (now (w .entry))) (now (book .entry)) (now (out .entry))) (now (out .entry)) r (now (out .exit)) ⌝ }
 {
-    recode_book(2, 1, words, bytes, w, book, out)
+    recode_book(true, words, bytes, w, book, out)
 }

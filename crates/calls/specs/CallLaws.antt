@@ -34,15 +34,15 @@ keyed key way {n} e =
     let w : Went (keyAndWay key way) (expandedCount (length key)) n = went (keyAndWay key way) _ e in
     record { checks = w .checks; long = key-permitted (w .checks); count = w .same }
 
-pub keyed-refused : (task : Task) (key : List ℕ) (way : ℕ) (src out : List ℕ) {r : Answer} {c : ℕ} → r ≡ keyAnswer key way → r ≡ Refused c
-    → Given (keyedCall task key way src out) out r out
+pub keyed-refused : (task : Task) (key : List ℕ) (way : ℕ) (iv src out : List ℕ) {r : Answer} {c : ℕ} → r ≡ keyAnswer key way → r ≡ Refused c
+    → Given (keyedCall task key way iv src out) out r out
 unfolding keyedCall
-keyed-refused task key way src out e h = rw h (given-refused out (stopped (keyAndWay key way) _ _ (sym h ∙ e)))
+keyed-refused task key way iv src out e h = rw h (given-refused out (stopped (keyAndWay key way) _ _ (sym h ∙ e)))
 
-pub keyed-passed : (task : Task) {key : List ℕ} {way n : ℕ} (src out : List ℕ) {exit : List ℕ} {r : Answer} → Keyed key way n
-    → Given (performed task key src out) out r exit → Given (keyedCall task key way src out) out r exit
+pub keyed-passed : (task : Task) {key : List ℕ} {way n : ℕ} (iv src out : List ℕ) {exit : List ℕ} {r : Answer} → Keyed key way n
+    → Given (performed task key iv src out) out r exit → Given (keyedCall task key way iv src out) out r exit
 unfolding keyedCall
-keyed-passed task src out k g = given-same (judged-pass (k .checks) _) g
+keyed-passed task iv src out k g = given-same (judged-pass (k .checks) _) g
 
 -- ---- the words of the expanded key, at the front of 56
 
@@ -69,19 +69,19 @@ pub constants-checked : {n : ℕ} (out : List ℕ) → KeyLength n
 unfolding constantsCall constantCount
 constants-checked {n} out k = key-accepted _ _ k ∙ ap (λ (m : ℕ). judged (outputCheck (4 * m) out ∷ []) (accepted m (bytesOf (constants n)))) (sym (length-constants k))
 
-pub given-constants : {n size : ℕ} {ws out exit : List ℕ} {r : Answer} → KeyLength n → size ≡ n → ws ≡ constants n
-    → Given (judged (outputCheck (4 * length ws) out ∷ []) (accepted (length ws) (bytesOf ws))) out r exit → Given (constantsCall size out) out r exit
+pub given-constants : {n keyLength : ℕ} {ws out exit : List ℕ} {r : Answer} → KeyLength n → keyLength ≡ n → ws ≡ constants n
+    → Given (judged (outputCheck (4 * length ws) out ∷ []) (accepted (length ws) (bytesOf ws))) out r exit → Given (constantsCall keyLength out) out r exit
 given-constants {out = out} k s e g = rw (s, constants-checked out k, ← e) g
 
-pub constants-refused : (size : ℕ) (out : List ℕ) → size ≢ 16 → size ≢ 24 → size ≢ 32 → constantsCall size out ≡ refused 1
+pub constants-refused : (keyLength : ℕ) (out : List ℕ) → keyLength ≢ 16 → keyLength ≢ 24 → keyLength ≢ 32 → constantsCall keyLength out ≡ refused 1
 unfolding constantsCall
-constants-refused size out a b c = key-refused _ _ size a b c
+constants-refused keyLength out a b c = key-refused _ _ keyLength a b c
 
 -- ---- a task done under the words of the expanded key
-pub given-performed : {task t : Task} {w : List ℕ} (key src out : List ℕ) {exit : List ℕ} {r : Answer} → task ≡ t → w ≡ expandKey key
-    → length w ≡ byKeyLength (length key) 40 48 56 → Given (under t (length w) w src out) out r exit → Given (performed task key src out) out r exit
+pub given-performed : {task t : Task} {w : List ℕ} (key iv src out : List ℕ) {exit : List ℕ} {r : Answer} → task ≡ t → w ≡ expandKey key
+    → length w ≡ byKeyLength (length key) 40 48 56 → Given (under t (length w) w iv src out) out r exit → Given (performed task key iv src out) out r exit
 unfolding performed expandedCount
-given-performed key src out h e l g = rw (h, ← e, ← l) g
+given-performed key iv src out h e l g = rw (h, ← e, ← l) g
 
 -- ---- the tables that are lent: the words alone, the bytes alone, or none
 

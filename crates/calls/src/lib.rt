@@ -1,24 +1,23 @@
-// The calls as the rest of the program sees them: checks 1 and 2, the tables fetched, the key expanded, the core called. The answer is an enum.
+// The calls below the border: checks 1 and 2, the tables fetched, the key expanded, the task done. The answer is an enum.
 ghost use mathlib.Core.Path.{_≡_};
 ghost use lib.ListN.{length};
 ghost use Rattle.clefia_spec.specs.Words.{byKeyLength, KeyLength};
 ghost use Rattle.ffunction.specs.Tables.{Lent};
-ghost use Rattle.planbook_spec.specs.Checks.{constantsCall, expandKeyCall, encryptBlockCall, decryptBlockCall};
+ghost use Rattle.planbook_spec.specs.Checks.{constantsCall};
 ghost use Rattle.answer.specs.Answer.{Given};
 ghost use Rattle.calls.specs.Tasks.{performed, keyedCall};
-ghost use Rattle.planbook_spec.specs.Book.{encryptBookCall, decryptBookCall};
 use answer::Answer;
 
-pub fn constants(size: u64, out: &mut [u8]) -> Answer
-    ensures { λ r. ⌜ Given (constantsCall size (now (out .entry))) (now (out .entry)) r (now (out .exit)) ⌝ }
+pub fn constants(key_length: u64, out: &mut [u8]) -> Answer
+    ensures { λ r. ⌜ Given (constantsCall «key_length» (now (out .entry))) (now (out .entry)) r (now (out .exit)) ⌝ }
 {
-    if size == 16 {
+    if key_length == 16 {
         return checks::write_words(&schedule::constants::sixteen(), out);
     }
-    if size == 24 {
+    if key_length == 24 {
         return checks::write_words(&schedule::constants::twenty_four(), out);
     }
-    if size == 32 {
+    if key_length == 32 {
         return checks::write_words(&schedule::constants::thirty_two(), out);
     }
     Answer::Refused(1)
@@ -33,20 +32,22 @@ pub enum Task {
     DecryptBook,
 }
 
-// The key expanded into w, and the task done under it.
+// The key expanded into w, and the task done under it. `iv` is the block that a mode of operation starts from, where it is lent beside the input: a
+// book has its own in its contents, so no task reads it yet.
 fn perform(
     task: Task,
     words: &[[u32; 256]],
     bytes: &[[u8; 256]],
     key: &[u8],
     w: &mut [u32],
+    iv: &[u8],
     src: &[u8],
     out: &mut [u8],
 ) -> Answer
     requires { ⌜ Lent (now words) (now bytes) ⌝ }
     requires { ⌜ KeyLength (length (now key)) ⌝ }
     requires { ⌜ length (now w) ≡ byKeyLength (length (now key)) 40 48 56 ⌝ }
-    ensures { λ r. ⌜ Given (performed task (now (key .entry)) (now (src .entry)) (now (out .entry))) (now (out .entry)) r (now (out .exit)) ⌝ }
+    ensures { λ r. ⌜ Given (performed task (now (key .entry)) (now (iv .entry)) (now (src .entry)) (now (out .entry))) (now (out .entry)) r (now (out .exit)) ⌝ }
 {
     // Lent on as parts, the slices stay in registers (DECISIONS).
     let ws = &words[..];
@@ -62,23 +63,40 @@ fn perform(
 }
 
 // The same with the tables that the way reads, each fetched where it is lent: a table costs a copy. In place of the others nothing is lent.
-fn perform_by(task: Task, way: u64, key: &[u8], w: &mut [u32], src: &[u8], out: &mut [u8]) -> Answer
+fn perform_by(
+    task: Task,
+    way: u64,
+    key: &[u8],
+    w: &mut [u32],
+    iv: &[u8],
+    src: &[u8],
+    out: &mut [u8],
+) -> Answer
     requires { ⌜ KeyLength (length (now key)) ⌝ }
     requires { ⌜ length (now w) ≡ byKeyLength (length (now key)) 40 48 56 ⌝ }
-    ensures { λ r. ⌜ Given (performed task (now (key .entry)) (now (src .entry)) (now (out .entry))) (now (out .entry)) r (now (out .exit)) ⌝ }
+    ensures { λ r. ⌜ Given (performed task (now (key .entry)) (now (iv .entry)) (now (src .entry)) (now (out .entry))) (now (out .entry)) r (now (out .exit)) ⌝ }
 {
     if way == 2 {
-        return perform(task, &word_tables::all(), &[], key, w, src, out);
+        return perform(task, &word_tables::all(), &[], key, w, iv, src, out);
     }
     if way == 1 {
-        return perform(task, &[], &sbox::tables::byte_tables(), key, w, src, out);
+        return perform(
+            task,
+            &[],
+            &sbox::tables::byte_tables(),
+            key,
+            w,
+            iv,
+            src,
+            out,
+        );
     }
-    perform(task, &[], &[], key, w, src, out)
+    perform(task, &[], &[], key, w, iv, src, out)
 }
 
 // Every call that takes a key: checks 1 and 2, and then its task.
-fn keyed_call(task: Task, key: &[u8], way: u64, src: &[u8], out: &mut [u8]) -> Answer
-    ensures { λ r. ⌜ Given (keyedCall task (now (key .entry)) way (now (src .entry)) (now (out .entry))) (now (out .entry)) r (now (out .exit)) ⌝ }
+pub fn keyed_call(task: Task, key: &[u8], way: u64, iv: &[u8], src: &[u8], out: &mut [u8]) -> Answer
+    ensures { λ r. ⌜ Given (keyedCall task (now (key .entry)) way (now (iv .entry)) (now (src .entry)) (now (out .entry))) (now (out .entry)) r (now (out .exit)) ⌝ }
 {
     let checked = checks::check_key(key, way);
     let Answer::Accepted(count) = checked else {
@@ -87,35 +105,5 @@ fn keyed_call(task: Task, key: &[u8], way: u64, src: &[u8], out: &mut [u8]) -> A
     let n = count as usize;
     let mut w = [0u32; 56];
     // Parts, as in perform.
-    perform_by(task, way, &key[..], &mut w[..n], &src[..], out)
-}
-
-pub fn expand_key(key: &[u8], way: u64, out: &mut [u8]) -> Answer
-    ensures { λ r. ⌜ Given (expandKeyCall (now (key .entry)) way (now (out .entry))) (now (out .entry)) r (now (out .exit)) ⌝ }
-{
-    keyed_call(Task::ExpandKey, key, way, &[], out)
-}
-
-pub fn encrypt_block(key: &[u8], way: u64, block: &[u8], out: &mut [u8]) -> Answer
-    ensures { λ r. ⌜ Given (encryptBlockCall (now (key .entry)) way (now (block .entry)) (now (out .entry))) (now (out .entry)) r (now (out .exit)) ⌝ }
-{
-    keyed_call(Task::EncryptBlock, key, way, block, out)
-}
-
-pub fn decrypt_block(key: &[u8], way: u64, block: &[u8], out: &mut [u8]) -> Answer
-    ensures { λ r. ⌜ Given (decryptBlockCall (now (key .entry)) way (now (block .entry)) (now (out .entry))) (now (out .entry)) r (now (out .exit)) ⌝ }
-{
-    keyed_call(Task::DecryptBlock, key, way, block, out)
-}
-
-pub fn encrypt_book(key: &[u8], way: u64, book: &[u8], out: &mut [u8]) -> Answer
-    ensures { λ r. ⌜ Given (encryptBookCall (now (key .entry)) way (now (book .entry)) (now (out .entry))) (now (out .entry)) r (now (out .exit)) ⌝ }
-{
-    keyed_call(Task::EncryptBook, key, way, book, out)
-}
-
-pub fn decrypt_book(key: &[u8], way: u64, book: &[u8], out: &mut [u8]) -> Answer
-    ensures { λ r. ⌜ Given (decryptBookCall (now (key .entry)) way (now (book .entry)) (now (out .entry))) (now (out .entry)) r (now (out .exit)) ⌝ }
-{
-    keyed_call(Task::DecryptBook, key, way, book, out)
+    perform_by(task, way, &key[..], &mut w[..n], &iv[..], &src[..], out)
 }

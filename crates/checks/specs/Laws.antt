@@ -7,16 +7,10 @@ use borrow.Author.Tests.{not-true, not-false}
 use lib.Dec.{eqb}
 use Rattle.clefia_spec.specs.Words.{byKeyLength, KeyLength, sixteen, twentyFour, thirtyTwo}
 use Rattle.clefia_spec.specs.Block.{encryptUnder, decryptUnder}
-use Rattle.planbook_spec.specs.Outcome.{Outcome, judged}
 use Rattle.planbook_spec.specs.OutcomeLaws.{pass-check}
 use Rattle.planbook_spec.specs.Checks.{keyCheck, expandedCount}
 use Rattle.planbook_spec.specs.CheckLaws.{key-permitted}
 use Rattle.checks.specs.Under.{codedUnder}
-
--- no check is left
-pub no-checks : (o : Outcome) → judged [] o ≡ o
-unfolding judged
-no-checks o = refl
 
 -- ---- a test that the code made, by its result r
 

@@ -1,13 +1,13 @@
 -- What the parts of a call answer: checks 1 and 2 of a key and a way, and a block under expanded words with its checks 3 and 4.
 use Prim.Native.Nat.{ℕ}
 use mathlib.Core.Bool.{Bool, true, false}
-use mathlib.Core.List.{List, [], _∷_}
+use mathlib.Core.List.{List, []}
 use lib.ListN.{length}
 use Rattle.clefia_spec.specs.Block.{encryptUnder, decryptUnder}
 use Rattle.answer.specs.Answer.{answerOf}
 use Rattle.answer.specs.declared.Answer.{Answer}
 use Rattle.planbook_spec.specs.Outcome.{Outcome, accepted, judged}
-use Rattle.planbook_spec.specs.Checks.{keyAndWay, blockCheck, outputCheck, expandedCount}
+use Rattle.planbook_spec.specs.Checks.{keyAndWay, blockChecks, expandedCount}
 
 -- Checks 1 and 2; the count is that of the expanded key's words.
 abbrev pub keyAnswer : List ℕ → ℕ → Answer
@@ -20,4 +20,4 @@ codedUnder false w block = encryptUnder w block
 
 -- Checks 3 and 4, and then the block.
 unfoldable pub blockUnder : Bool → List ℕ → List ℕ → List ℕ → Outcome
-blockUnder d w block out = judged (blockCheck block ∷ outputCheck 16 out ∷ []) (accepted 1 (codedUnder d w block))
+blockUnder d w block out = judged (blockChecks [] block out) (accepted 1 (codedUnder d w block))

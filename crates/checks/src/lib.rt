@@ -48,6 +48,7 @@ pub fn check_key(key: &[u8], way: u64) -> Answer
     if !one_of(way, 1, 2, 3) {
         return Answer::Refused(2);
     }
+    // 40, 48 or 56 words: four that whiten and two for each of 18, 22 or 26 rounds, which is 24 more than the key has bytes.
     Answer::Accepted(24 + key.len() as u64)
 }
 

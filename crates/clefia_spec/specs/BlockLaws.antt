@@ -5,20 +5,15 @@ use mathlib.Core.Path.{_≡_, refl, sym, ap, _∙_}
 use mathlib.Core.List.{List, [], _∷_}
 use lib.Dec.{lit<}
 use lib.ListN.{length, getD}
-use Rattle.clefia_spec.specs.Words.{bytesOf, wordsOf, xors, KeyLength, Below, none, more}
-use Rattle.clefia_spec.specs.DigitLaws.{length-digitsOf, length-numbersOf, numbers-digits, digits-numbers, below-digitsOf, below-numbersOf, below-getD, length-xors, xors-cancel, below-xors}
+use Rattle.clefia_spec.specs.Words.{bytesOf, wordsOf, KeyLength, Below, none, more}
+use Rattle.clefia_spec.specs.DigitLaws.{length-digitsOf, length-numbersOf, numbers-digits, digits-numbers, below-digitsOf, below-numbersOf, below-getD, xors-cancel}
 use Rattle.clefia_spec.specs.FFunction.{f0, f1}
 use Rattle.clefia_spec.specs.FFunctionLaws.{f0-lt, f1-lt}
 use Rattle.clefia_spec.specs.Network.{network4, inverseNetwork4}
-use Rattle.clefia_spec.specs.NetworkLaws.{undo-network, redo-network, length-network, length-inverseNetwork, below-network, below-inverseNetwork}
-use Rattle.clefia_spec.specs.KeySchedule.{expandKey}
-use Rattle.clefia_spec.specs.KeyLaws.{Row, row-expandKey}
+use Rattle.clefia_spec.specs.NetworkLaws.{undo-network, redo-network, length-inverseNetwork, below-inverseNetwork}
+use Rattle.clefia_spec.specs.KeyLaws.{row-network, row-expandKey}
+use Rattle.clefia_spec.specs.RowLaws.{Bytes, Row, sized-xors, Undone}
 use Rattle.clefia_spec.specs.Block.{whiten, roundCount, encryptWords, decryptWords, encryptUnder, decryptUnder, encrypt, decrypt}
-
--- A block: 16 bytes.
-pub record Block (b : List ℕ) : Type 0 where
-  pub long : length b ≡ 16
-  pub below : Below 256 b
 
 -- ---- four words, under any words w
 
@@ -42,11 +37,7 @@ encrypt-decrypt-words w s =
 
 row-whiten : {a b : ℕ} → a < 2 ^ 32 → b < 2 ^ 32 → {n : ℕ} {s : List ℕ} → Row n s → Row n (whiten a b s)
 unfolding whiten
-row-whiten {a} {b} ha hb {s = s} h =
-    record {
-      long = length-xors (0 ∷ a ∷ 0 ∷ b ∷ []) s ∙ h .long;
-      below = below-xors 32 (more (lit< tt) (more ha (more (lit< tt) (more hb none)))) (h .below);
-    }
+row-whiten ha hb h = sized-xors 32 (record { size = refl; below = more (lit< tt) (more ha (more (lit< tt) (more hb none))) }) h
 
 module _ {w : List ℕ} (words : Below (2 ^ 32) w) where
   at : (i : ℕ) → getD w i 0 < 2 ^ 32
@@ -54,14 +45,7 @@ module _ {w : List ℕ} (words : Below (2 ^ 32) w) where
 
   pub row-encryptWords : {n : ℕ} {s : List ℕ} → Row n s → Row n (encryptWords w s)
   unfolding encryptWords
-  row-encryptWords h = row-whiten (at 2) (at 3) (row-through (row-whiten (at 0) (at 1) h))
-    where
-      row-through : {n : ℕ} {s : List ℕ} → Row n s → Row n (network4 (roundCount w) w 4 s)
-      row-through {s = s} p =
-          record {
-            long = length-network 2 f0 f1 (roundCount w) w 4 s ∙ p .long;
-            below = below-network 2 f0 f1 32 f0-lt f1-lt (roundCount w) w 4 (p .below);
-          }
+  row-encryptWords h = row-whiten (at 2) (at 3) (row-network 2 (roundCount w) w 4 (row-whiten (at 0) (at 1) h))
 
   pub row-decryptWords : {n : ℕ} {s : List ℕ} → Row n s → Row n (decryptWords w s)
   unfolding decryptWords
@@ -70,58 +54,49 @@ module _ {w : List ℕ} (words : Below (2 ^ 32) w) where
       row-back : {n : ℕ} {s : List ℕ} → Row n s → Row n (inverseNetwork4 (roundCount w) w 4 s)
       row-back {s = s} p =
           record {
-            long = length-inverseNetwork 2 f0 f1 (roundCount w) w 4 s ∙ p .long;
+            size = length-inverseNetwork 2 f0 f1 (roundCount w) w 4 s ∙ p .size;
             below = below-inverseNetwork 2 f0 f1 32 f0-lt f1-lt (roundCount w) w 4 (p .below);
           }
 
 -- ---- bytes of four words, and back
 
 pub block-words : {s : List ℕ} → Row 4 s → wordsOf 4 (bytesOf s) ≡ s
-block-words {s} h = ap (λ (n : ℕ). wordsOf n (bytesOf s)) (sym (h .long)) ∙ numbers-digits (lit< tt) 4 (h .below)
+block-words {s} h = ap (λ (n : ℕ). wordsOf n (bytesOf s)) (sym (h .size)) ∙ numbers-digits (lit< tt) 4 (h .below)
 
-pub words-block : {b : List ℕ} → Block b → bytesOf (wordsOf 4 b) ≡ b
-words-block {b} h = digits-numbers (lit< tt) 4 4 b (h .below) (h .long)
+pub words-block : {b : List ℕ} → Bytes 16 b → bytesOf (wordsOf 4 b) ≡ b
+words-block {b} h = digits-numbers (lit< tt) 4 4 b (h .below) (h .size)
 
-pub row-block : {b : List ℕ} → Block b → Row 4 (wordsOf 4 b)
-row-block {b} h = record { long = length-numbersOf 256 4 4 b; below = below-numbersOf (lit< tt) 4 4 (h .below) }
+pub row-block : {b : List ℕ} → Below 256 b → Row 4 (wordsOf 4 b)
+row-block {b} r = record { size = length-numbersOf 256 4 4 b; below = below-numbersOf (lit< tt) 4 4 r }
 
-pub block-row : {s : List ℕ} → Row 4 s → Block (bytesOf s)
-block-row {s} h = record { long = length-digitsOf 256 4 s ∙ ap (λ (n : ℕ). n * 4) (h .long); below = below-digitsOf (lit< tt) 4 s }
+pub block-row : {s : List ℕ} → Row 4 s → Bytes 16 (bytesOf s)
+block-row {s} h = record { size = length-digitsOf 256 4 s ∙ ap (λ (n : ℕ). n * 4) (h .size); below = below-digitsOf (lit< tt) 4 s }
 
 -- ---- blocks
 
--- f takes blocks to blocks, and g takes each back.
-pub record Undoes (g f : List ℕ → List ℕ) : Type 0 where
-  pub block : (b : List ℕ) → Block b → Block (f b)
-  pub undone : (b : List ℕ) → Block b → g (f b) ≡ b
-
 -- a function on rows of four words, taken to the bytes of a block
 undoes-bytes : (f g : List ℕ → List ℕ) → ((s : List ℕ) → Row 4 s → Row 4 (f s)) → ((s : List ℕ) → g (f s) ≡ s)
-    → Undoes (λ b. bytesOf (g (wordsOf 4 b))) (λ b. bytesOf (f (wordsOf 4 b)))
+    → Undone (Bytes 16) (λ b. bytesOf (f (wordsOf 4 b))) (λ b. bytesOf (g (wordsOf 4 b)))
 undoes-bytes f g kept back =
     record {
-      block = λ b h. block-row (kept (wordsOf 4 b) (row-block h));
-      undone = λ b h. ap (λ (s : List ℕ). bytesOf (g s)) (block-words (kept (wordsOf 4 b) (row-block h))) ∙ ap bytesOf (back (wordsOf 4 b)) ∙ words-block h;
+      keeps = λ b h. block-row (kept (wordsOf 4 b) (row-block (h .below)));
+      back = λ b h. ap (λ (s : List ℕ). bytesOf (g s)) (block-words (kept (wordsOf 4 b) (row-block (h .below)))) ∙ ap bytesOf (back (wordsOf 4 b)) ∙ words-block h;
     }
 
 module _ {w : List ℕ} (words : Below (2 ^ 32) w) where
-  pub decrypt-undoes-encrypt-under : Undoes (decryptUnder w) (encryptUnder w)
+  pub decrypt-undoes-encrypt-under : Undone (Bytes 16) (encryptUnder w) (decryptUnder w)
   unfolding encryptUnder decryptUnder
   decrypt-undoes-encrypt-under = undoes-bytes (encryptWords w) (decryptWords w) (λ s h. row-encryptWords words h) (decrypt-encrypt-words w)
 
-  pub encrypt-undoes-decrypt-under : Undoes (encryptUnder w) (decryptUnder w)
+  pub encrypt-undoes-decrypt-under : Undone (Bytes 16) (decryptUnder w) (encryptUnder w)
   unfolding encryptUnder decryptUnder
   encrypt-undoes-decrypt-under = undoes-bytes (decryptWords w) (encryptWords w) (λ s h. row-decryptWords words h) (encrypt-decrypt-words w)
 
 module _ {key : List ℕ} (size : KeyLength (length key)) (bytes : Below 256 key) where
-  pub decrypt-undoes-encrypt : Undoes (decrypt key) (encrypt key)
+  pub decrypt-undoes-encrypt : Undone (Bytes 16) (encrypt key) (decrypt key)
   unfolding encrypt decrypt
   decrypt-undoes-encrypt = decrypt-undoes-encrypt-under (row-expandKey size bytes .below)
 
-  pub encrypt-undoes-decrypt : Undoes (encrypt key) (decrypt key)
+  pub encrypt-undoes-decrypt : Undone (Bytes 16) (decrypt key) (encrypt key)
   unfolding encrypt decrypt
   encrypt-undoes-decrypt = encrypt-undoes-decrypt-under (row-expandKey size bytes .below)
-
--- what is undone is injective
-pub injective : {f g : List ℕ → List ℕ} → Undoes g f → {a b : List ℕ} → Block a → Block b → f a ≡ f b → a ≡ b
-injective {g = g} u {a} {b} p q e = sym (u .undone a p) ∙ ap g e ∙ u .undone b q

@@ -2,9 +2,9 @@
 use Prim.Native.Nat.{ℕ, zero, suc, _+_, _*_, _/_, _%_, _^_, _<_, _≤_, _-_, min, zero-le, suc-le-suc}
 use mathlib.Core.Path.{_≡_, refl, sym, ap, ap₂, _∙_, subst}
 use mathlib.Core.List.{List, [], _∷_, _++_}
-use native.Mathlib.Nat.{pow-zero, pow-suc, pow-succ', mul-assoc, mul-comm, mod-one, mod-lt, mod-eq-of-lt, add-mul-div-right, add-comm, add-suc, suc-add, add-zero, zero-add, mul-add-mod-self-right, le-refl, suc-mul, zero-mul, lt-of-lt-of-le, zero-lt-suc, mul-pos, not-suc-le-zero, le-of-eq, pow-le-pow-right, mul-zero, mul-suc, suc-inj}
+use native.Mathlib.Nat.{pow-zero, pow-suc, pow-succ', mul-assoc, mod-one, mod-lt, mod-eq-of-lt, add-mul-div-right, add-comm, add-suc, suc-add, zero-add, mul-add-mod-self-right, suc-mul, zero-mul, lt-of-lt-of-le, zero-lt-suc, mul-pos, not-suc-le-zero, le-of-eq, pow-le-pow-right, mul-zero, mul-suc, suc-inj}
 use native.Mathlib.Omega.{arith}
-use lib.Arith.{digits-lt, digits-div, digits-mod, mod-mul}
+use lib.Arith.{digits-lt, digits-div, mod-mul}
 use lib.Bits.{xor-block, xor-shr, xor-mod, xor-lt}
 use lib.Pow.{pow-add, pow-pos}
 use lib.ListN.{length, getD, take, drop, length-append, length-take, length-drop, take-append-drop}
@@ -37,10 +37,6 @@ below-getD pos (more h r) (suc i) = below-getD pos r i
 pub below-all : {b : ℕ} (xs : List ℕ) → ((i : ℕ) → i < length xs → getD xs i 0 < b) → Below b xs
 below-all [] f = none
 below-all (x ∷ xs) f = more (f zero (suc-le-suc zero-le)) (below-all xs (λ i h. f (suc i) (suc-le-suc h)))
-
-pub below-widen : {b c : ℕ} {xs : List ℕ} → b ≤ c → Below b xs → Below c xs
-below-widen l none = none
-below-widen l (more h r) = more (lt-of-lt-of-le h l) (below-widen l r)
 
 -- ---- lengths
 

@@ -1,29 +1,28 @@
 -- The outputs of the substitutions are bytes and those of the F functions are words, whatever comes in.
-use Prim.Native.Nat.{ℕ, zero, suc, _+_, _*_, _-_, _/_, _%_, _^_, _<_}
-use mathlib.Core.Path.{_≡_}
+use Prim.Native.Nat.{ℕ, _-_, _/_, _%_, _^_, _<_}
 use mathlib.Core.List.{List, [], _∷_, map}
-use native.Mathlib.Nat.{mod-lt, zero-lt-suc}
+use native.Mathlib.Nat.{mod-lt}
 use lib.Arith.{digits-lt}
 use lib.Bits.{xor-lt}
 use lib.Dec.{T, ltb, ltb→lt, lit<}
-use mathlib.Core.Bool.{Bool, true, false}
-use lib.ListN.{length, getD}
-use Rattle.clefia_spec.specs.Words.{_⊕_, fromDigits, toDigits, Below, none, more}
+use mathlib.Core.Bool.{Bool, true, _&&_}
+use lib.ListN.{getD}
+use Rattle.clefia_spec.specs.Words.{_⊕_, fromDigits, Below, none, more}
 use Rattle.clefia_spec.specs.DigitLaws.{below-getD, fromDigits-lt}
 use Rattle.clefia_spec.specs.Field.{double4, product, inverse}
-use Rattle.clefia_spec.specs.FieldLaws.{both, both-left, both-right, product-lt}
+use Rattle.clefia_spec.specs.FieldLaws.{and-left, and-right, product-lt}
 use Rattle.clefia_spec.specs.Sbox.{ss0, ss1, ss2, ss3, s0, bitOf, sumOfBits, affine, fRows, gRows, s1}
-use Rattle.clefia_spec.specs.FFunction.{m0, m1, entry, rowTimes, matrixTimes, substitute, f0, f1}
+use Rattle.clefia_spec.specs.FFunction.{entry, rowTimes, matrixTimes, substitute, f0, f1}
 
 -- a row of numbers, tested
 allLess : ℕ → List ℕ → Bool
 allLess b [] = true
-allLess b (x ∷ xs) = both (ltb x b) (allLess b xs)
+allLess b (x ∷ xs) = ltb x b && allLess b xs
 
 below-tested : (b : ℕ) (xs : List ℕ) → T (allLess b xs) → Below b xs
 unfolding allLess
 below-tested b [] t = none
-below-tested b (x ∷ xs) t = more (ltb→lt x b (both-left (ltb x b) (allLess b xs) t)) (below-tested b xs (both-right (ltb x b) (allLess b xs) t))
+below-tested b (x ∷ xs) t = more (ltb→lt x b (and-left (ltb x b) (allLess b xs) t)) (below-tested b xs (and-right (ltb x b) (allLess b xs) t))
 
 box : (ss : List ℕ) → T (allLess 16 ss) → (i : ℕ) → getD ss i 0 < 16
 box ss t = below-getD (lit< tt) (below-tested 16 ss t)

@@ -1,17 +1,17 @@
 -- The lengths of constants (60, 84, 92) and expanded keys (40, 48, 56), and that all of them are words.
-use Prim.Native.Nat.{ℕ, zero, suc, _+_, _-_, _*_, _/_, _%_, _^_, _<_, _≤_}
-use mathlib.Core.Path.{_≡_, refl, sym, ap, ap₂, _∙_}
+use Prim.Native.Nat.{ℕ, zero, suc, _+_, _-_, _*_, _/_, _%_, _^_, _<_}
+use mathlib.Core.Path.{_≡_, refl, sym, ap, _∙_}
 use mathlib.Core.Bool.{Bool, true, false}
-use mathlib.Core.List.{List, [], _∷_, _++_}
-use native.Mathlib.Nat.{suc-mul, zero-mul, add-comm, add-suc, suc-add}
+use mathlib.Core.List.{List, _++_}
+use native.Mathlib.Nat.{suc-mul, zero-mul}
 use native.Mathlib.Omega.{arith}
-use lib.Arith.{digits-lt}
 use lib.Bits.{xor-lt}
 use lib.Pow.{ones-sub-lt}
 use lib.Dec.{lit<, ltb, eqb}
-use lib.ListN.{length, getD, take, drop, length-append, length-take, length-drop}
-use Rattle.clefia_spec.specs.Words.{_⊕_, complement, rotate, digitsOf, fourAt, xors, wordsOf, choose, byKeyLength, KeyLength, sixteen, twentyFour, thirtyTwo, Below, none, more}
-use Rattle.clefia_spec.specs.DigitLaws.{length-xors, length-numbersOf, below-append, below-take, below-drop, below-getD, below-xors, below-numbersOf, below-digitsOf}
+use lib.ListN.{length}
+use Rattle.clefia_spec.specs.Words.{_⊕_, complement, rotate, digitsOf, fourAt, choose, byKeyLength, KeyLength, sixteen, twentyFour, thirtyTwo, Below, none, more}
+use Rattle.clefia_spec.specs.DigitLaws.{length-numbersOf, below-append, below-take, below-drop, below-getD, below-numbersOf, below-digitsOf}
+use Rattle.clefia_spec.specs.RowLaws.{Row, sized-append, sized-take, sized-drop, sized-xors}
 use Rattle.clefia_spec.specs.Constants.{divideByZ, evenConstant, oddConstant, constantsFrom, firstT, constants}
 use Rattle.clefia_spec.specs.FFunction.{f0, f1}
 use Rattle.clefia_spec.specs.FFunctionLaws.{f0-lt, f1-lt}
@@ -85,23 +85,12 @@ below-doubleSwap x =
     part : (a b : ℕ) → Below 2 (bitRange a b (digitsOf 2 32 x))
     part a b = below-take (b + 1 - a) (below-drop a (below-digitsOf (lit< tt) 32 x))
 
--- A row of n words.
-pub record Row (n : ℕ) (s : List ℕ) : Type 0 where
-  pub long : length s ≡ n
-  pub below : Below (2 ^ 32) s
-
-row-append : {m n : ℕ} {s t : List ℕ} → Row m s → Row n t → Row (m + n) (s ++ t)
-row-append {s = s} {t = t} p q = record { long = length-append s t ∙ ap₂ _+_ (p .long) (q .long); below = below-append (p .below) (q .below) }
-
 row-swapped : (x : List ℕ) → Row 4 (doubleSwap x)
-row-swapped x = record { long = length-doubleSwap x; below = below-doubleSwap x }
-
-row-xors : {m n : ℕ} {x y : List ℕ} → Row m x → Row n y → Row n (xors x y)
-row-xors {x = x} {y = y} p q = record { long = length-xors x y ∙ q .long; below = below-xors 32 (p .below) (q .below) }
+row-swapped x = record { size = length-doubleSwap x; below = below-doubleSwap x }
 
 row-fourAt : {w : List ℕ} → Below (2 ^ 32) w → (i : ℕ) → Row 4 (fourAt w i)
 unfolding fourAt
-row-fourAt r i = record { long = refl; below = below-fourAt (lit< tt) r i }
+row-fourAt r i = record { size = refl; below = below-fourAt (lit< tt) r i }
 
 row-chosen : {n : ℕ} (t : Bool) {a b : List ℕ} → Row n a → Row n b → Row n (choose t a b)
 row-chosen true p q = p
@@ -109,35 +98,29 @@ row-chosen false p q = q
 
 row-stepKeys : (i : ℕ) {con k l : List ℕ} → Row 4 con → Row 4 k → Row 4 l → Row 4 (stepKeys i con k l)
 unfolding stepKeys
-row-stepKeys i c p q = row-chosen (eqb (i % 2) 1) (row-xors p (row-xors c q)) (row-xors c q)
+row-stepKeys i c p q = row-chosen (eqb (i % 2) 1) (sized-xors 32 p (sized-xors 32 c q)) (sized-xors 32 c q)
 
 module _ (period base : ℕ) (con : List ℕ) (r : Below (2 ^ 32) con) where
   row-roundKeys : (n i : ℕ) {k k′ l l′ : List ℕ} → Row 4 k → Row 4 k′ → Row 4 l → Row 4 l′ → Row (n * 4) (roundKeys period base con n i k k′ l l′)
   unfolding roundKeys
-  row-roundKeys zero i hk hk′ hl hl′ = record { long = sym (zero-mul 4); below = none }
+  row-roundKeys zero i hk hk′ hl hl′ = record { size = sym (zero-mul 4); below = none }
   row-roundKeys (suc n) i {k} {k′} {l} {l′} hk hk′ hl hl′ =
       let t : Bool = ltb (i % period) 2 in
-      rw (suc-mul, add-comm (n * 4) 4)
-      (row-append
+      sized-append 4 (n * 4)
       (row-stepKeys i (row-fourAt r (base + 4 * i)) (row-chosen t hk hk′) (row-chosen t hl hl′))
-      (row-roundKeys n (i + 1) hk hk′ (row-chosen t (row-swapped l) hl) (row-chosen t hl′ (row-swapped l′))))
+      (row-roundKeys n (i + 1) hk hk′ (row-chosen t (row-swapped l) hl) (row-chosen t hl′ (row-swapped l′)))
+      (omega (arith, suc-mul n 4))
 
 -- ---- expanded keys
 
-row-network : (p n : ℕ) (con : List ℕ) (i : ℕ) {m : ℕ} {s : List ℕ} → Row m s → Row m (network p f0 f1 n con i s)
+pub row-network : (p n : ℕ) (con : List ℕ) (i : ℕ) {m : ℕ} {s : List ℕ} → Row m s → Row m (network p f0 f1 n con i s)
 row-network p n con i {s = s} h =
-    record { long = length-network p f0 f1 n con i s ∙ h .long; below = below-network p f0 f1 32 f0-lt f1-lt n con i (h .below) }
-
-row-take : (m n : ℕ) {s : List ℕ} → Row (m + n) s → Row m (take m s)
-row-take m n {s} h = record { long = length-take m s ∙ omega (arith, h .long); below = below-take m (h .below) }
-
-row-drop : (m n : ℕ) {s : List ℕ} → Row (m + n) s → Row n (drop m s)
-row-drop m n {s} h = record { long = length-drop m s ∙ omega (arith, h .long); below = below-drop m (h .below) }
+    record { size = length-network p f0 f1 n con i s ∙ h .size; below = below-network p f0 f1 32 f0-lt f1-lt n con i (h .below) }
 
 row-short : {k : List ℕ} → Row 4 k → Row 40 (expandShort k)
 unfolding expandShort
 row-short {k} h =
-    row-append h (row-roundKeys 2 24 (constants 16) (below-constants sixteen) 9 0 h h l l)
+    sized-append 4 36 h (row-roundKeys 2 24 (constants 16) (below-constants sixteen) 9 0 h h l l) refl
   where
     l : Row 4 (network4 12 (constants 16) 0 k)
     l = row-network 2 12 (constants 16) 0 h
@@ -145,14 +128,14 @@ row-short {k} h =
 row-long : {con : List ℕ} (n : ℕ) {kl kr : List ℕ} → Below (2 ^ 32) con → Row 4 kl → Row 4 kr → Row (4 + n * 4) (expandLong con n kl kr)
 unfolding expandLong
 row-long {con} n {kl} {kr} c hl hr =
-    row-append (row-xors hl hr) (row-roundKeys 4 40 con c n 0 hr hl (row-take 4 4 l) (row-drop 4 4 l))
+    sized-append 4 (n * 4) (sized-xors 32 hl hr) (row-roundKeys 4 40 con c n 0 hr hl (sized-take 4 4 l refl) (sized-drop 4 4 l refl)) refl
   where
     l : Row 8 (network8 10 con 0 (kl ++ kr))
-    l = row-network 4 10 con 0 (row-append hl hr)
+    l = row-network 4 10 con 0 (sized-append 4 4 hl hr refl)
 
 row-extendKey : {k : List ℕ} → Below (2 ^ 32) k → Row 4 (extendKey k)
 unfolding extendKey
-row-extendKey r = record { long = refl; below = search (more, none, below-getD, complement-lt, lit<, tt) depth 9 }
+row-extendKey r = record { size = refl; below = search (more, none, below-getD, complement-lt, lit<, tt) depth 9 }
 
 pub row-expandKeyWords : {n : ℕ} → KeyLength n → {k : List ℕ} → Below (2 ^ 32) k → Row (byKeyLength n 40 48 56) (expandKeyWords n k)
 unfolding expandKeyWords
@@ -166,4 +149,4 @@ unfolding expandKey
 row-expandKey {key} h r = row-expandKeyWords h (below-numbersOf (lit< tt) 4 (length key / 4) r)
 
 pub length-expandKey : {key : List ℕ} → KeyLength (length key) → Below 256 key → length (expandKey key) ≡ byKeyLength (length key) 40 48 56
-length-expandKey h r = row-expandKey h r .long
+length-expandKey h r = row-expandKey h r .size

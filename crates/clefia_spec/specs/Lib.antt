@@ -10,6 +10,7 @@ pub mod Cases
 pub mod Examples
 pub mod XorLaws
 pub mod DigitLaws
+pub mod RowLaws
 pub mod NetworkLaws
 pub mod FieldLaws
 pub mod FFunctionLaws

@@ -1,14 +1,13 @@
 -- The rounds of the network are undone both ways, for any number of rounds, any round functions, any keys and any number of branches. Lengths and
 -- bounds are kept.
-use Prim.Native.Nat.{ℕ, zero, suc, _+_, _-_, _^_, _<_, _≤_}
-use mathlib.Core.Path.{_≡_, refl, sym, ap, ap₂, _∙_}
+use Prim.Native.Nat.{ℕ, zero, suc, _+_, _-_, _^_, _<_}
+use mathlib.Core.Path.{_≡_, refl, ap, ap₂, _∙_}
 use mathlib.Core.List.{List, [], _∷_, _++_}
-use native.Mathlib.Nat.{le-refl}
 use native.Mathlib.Omega.{arith}
 use lib.Bits.{xor-lt}
 use lib.ListN.{length, getD, take, drop, length-append, length-take, length-drop, take-append-drop}
 use lib.Seq.{take-at, drop-at}
-use Rattle.clefia_spec.specs.Words.{_⊕_, Below, none, more}
+use Rattle.clefia_spec.specs.Words.{Below, none, more}
 use Rattle.clefia_spec.specs.XorLaws.{xor-cancel-right}
 use Rattle.clefia_spec.specs.DigitLaws.{below-append, below-take, below-drop}
 use Rattle.clefia_spec.specs.Network.{feistel, rotateBranches, rotateLeft, rotateRight, rounds, undoRounds, network, inverseNetwork}

@@ -3,7 +3,7 @@ use Prim.Native.Nat.{ℕ, zero, suc, _+_, _*_, _/_, _%_, _<_}
 use mathlib.Core.Path.{_≡_, refl, sym, ap, ap₂, _∙_}
 use native.Mathlib.Nat.{mod-lt, zero-lt-suc, not-suc-le-zero, le-of-suc-le-suc}
 use lib.Arith.{bin-ind, digits-div, digits-mod}
-use lib.Bits.{bitXor, differ, xor-step, xor-self, xor-zero-r}
+use lib.Bits.{differ, xor-step, xor-self, xor-zero-r}
 use Rattle.clefia_spec.specs.Words.{_⊕_}
 
 differ-lt : (x y : ℕ) → x < 2 → y < 2 → differ x y < 2
@@ -12,10 +12,6 @@ differ-lt (suc zero) zero h k = h
 differ-lt (suc zero) (suc zero) h k = zero-lt-suc 1
 differ-lt (suc zero) (suc (suc y)) h k = absurd (not-suc-le-zero (le-of-suc-le-suc (le-of-suc-le-suc k)))
 differ-lt (suc (suc x)) y h k = absurd (not-suc-le-zero (le-of-suc-le-suc (le-of-suc-le-suc h)))
-
-differ-zero : (x : ℕ) → differ x zero ≡ x
-differ-zero zero = refl
-differ-zero (suc x) = refl
 
 differ-assoc : (x y z : ℕ) → x < 2 → y < 2 → z < 2 → differ (differ x y) z ≡ differ x (differ y z)
 differ-assoc zero y z h k l = refl

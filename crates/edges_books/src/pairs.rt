@@ -60,12 +60,12 @@ fn spoil(book: &mut [u8], at: usize) {
 }
 
 // The bits of a start block that are changed after encryption are those changed in the clear record.
-fn records_in(key: &[u8], way: u64, book: &mut [u8], sealed: &mut [u8], output: &mut [u8]) {
+fn records_in(key: &[u8], way: u64, book: &mut [u8], encrypted: &mut [u8], output: &mut [u8]) {
     let case: &[u8] = b"count 2 in 44 bytes, replicate 5";
     write_book(book, 1, 1, 1, 1);
-    planbook_encrypt_book(key, way, book, sealed);
-    spoil(sealed, 20);
-    decrypt_book(case, key, way, sealed, output);
+    planbook_encrypt_book(key, way, book, encrypted);
+    spoil(encrypted, 20);
+    decrypt_book(case, key, way, encrypted, output);
     spoil(book, 36);
     encrypt_book(case, key, way, book, output);
 }

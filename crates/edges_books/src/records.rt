@@ -143,9 +143,9 @@ fn say_same(is_same: bool) {
 }
 
 // Whether a decrypted book is the clear one.
-fn compare(book: &[u8], opened: &[u8]) {
+fn compare(book: &[u8], decrypted: &[u8]) {
     say(b"clear book and decrypted book: ");
-    say_same(same(book, opened));
+    say_same(same(book, decrypted));
 }
 
 // A right book encrypted, and decrypted again: its trials count up from first, and each sheet has as many records as each says.
@@ -157,13 +157,13 @@ fn round_trip(
     sheets: u16,
     each: u16,
     book: &mut [u8],
-    sealed: &mut [u8],
-    opened: &mut [u8],
+    encrypted: &mut [u8],
+    decrypted: &mut [u8],
 ) {
     write_book(book, first, sheets, each, each);
-    encrypt_book(case, key, way, book, sealed);
-    decrypt_book(case, key, way, sealed, opened);
-    compare(book, opened);
+    encrypt_book(case, key, way, book, encrypted);
+    decrypt_book(case, key, way, encrypted, decrypted);
+    compare(book, decrypted);
 }
 
 // Two sheets of one record each.
@@ -216,11 +216,11 @@ fn spelled(
     sheets: u16,
     each: u16,
     book: &mut [u8],
-    sealed: &mut [u8],
-    opened: &mut [u8],
+    encrypted: &mut [u8],
+    decrypted: &mut [u8],
 ) {
-    round_trip(case, key, way, 1, sheets, each, book, sealed, opened);
-    say_words(sealed);
+    round_trip(case, key, way, 1, sheets, each, book, encrypted, decrypted);
+    say_words(encrypted);
 }
 
 // The encrypted bytes of the book of no sheets, and of two sheets of two records each.
@@ -252,16 +252,16 @@ fn two_ways(
     way: u64,
     other: u64,
     book: &mut [u8],
-    sealed: &mut [u8],
+    encrypted: &mut [u8],
     output: &mut [u8],
 ) {
     let case: &[u8] = b"5 sheets, 4088 records, 65532 bytes";
     write_book(book, 1, 5, 1021, 4);
-    encrypt_book(case, key, way, book, sealed);
+    encrypt_book(case, key, way, book, encrypted);
     encrypt_book(case, key, other, book, output);
     say(b"encrypted book and encrypted book: ");
-    say_same(same(sealed, output));
-    decrypt_book(case, key, other, sealed, output);
+    say_same(same(encrypted, output));
+    decrypt_book(case, key, other, encrypted, output);
     compare(book, output);
 }
 

@@ -1,16 +1,14 @@
 -- A matrix times four bytes is the sum of its columns, each times its byte: what the word tables rest on.
-use Prim.Native.Nat.{ℕ, zero, suc, _+_, _*_, _/_, _%_, _^_, _<_}
-use native.Mathlib.Nat.{div-one, pow-suc, suc-mul, le-of-suc-le-suc, not-suc-le-zero}
+use Prim.Native.Nat.{ℕ, zero, suc, _+_, _*_, _/_, _%_, _<_}
+use native.Mathlib.Nat.{div-one, le-of-suc-le-suc, not-suc-le-zero}
 use native.Mathlib.Omega.{arith}
-use mathlib.Core.Path.{_≡_, refl, ap, sym, _∙_, subst}
+use mathlib.Core.Path.{_≡_, refl, ap, sym, _∙_}
 use mathlib.Core.List.{List, [], _∷_}
-use lib.Bits.{xor-block, xor-comm}
-use lib.Dec.{lit<}
-use lib.Pow.{pow-add}
+use lib.Bits.{xor-comm}
 use lib.ListN.{length, getD}
-use Rattle.clefia_spec.specs.Words.{_⊕_, fromDigits, toDigits, xors, Below, none, more}
+use Rattle.clefia_spec.specs.Words.{_⊕_, toDigits, xors, Below, none, more}
 use Rattle.clefia_spec.specs.XorLaws.{xor-assoc}
-use Rattle.clefia_spec.specs.DigitLaws.{fromDigits-lt, below-xors, length-xors}
+use Rattle.clefia_spec.specs.DigitLaws.{below-xors, fromDigits-xors}
 use Rattle.clefia_spec.specs.Field.{product}
 use Rattle.clefia_spec.specs.FieldLaws.{product-lt}
 use Rattle.clefia_spec.specs.FFunction.{entry, rowTimes, matrixTimes, substitute}
@@ -18,24 +16,6 @@ use Rattle.clefia_spec.specs.FFunctionLaws.{s0-lt, s1-lt}
 use Rattle.gf256.specs.Values.{value, length-values}
 use Rattle.sbox.specs.Boxes.{box}
 use Rattle.ffunction.specs.Tables.{matrix, mix, columnTimes, column, wordTable, wordTables}
-
-byte-pow : (n : ℕ) → 256 ^ n ≡ 2 ^ (n * 8)
-byte-pow zero = refl
-byte-pow (suc n) = pow-suc 256 n ∙ ap (λ (k : ℕ). k * 256) (byte-pow n) ∙ sym (pow-add 2 (n * 8) 8) ∙ ap (λ (k : ℕ). 2 ^ k) (sym (suc-mul n 8))
-
-number-lt : {n : ℕ} {xs : List ℕ} → length xs ≡ n → Below 256 xs → fromDigits 256 xs < 2 ^ (n * 8)
-number-lt {n} {xs} e r = subst (λ (m : ℕ). fromDigits 256 xs < m) (ap (λ (k : ℕ). 256 ^ k) e ∙ byte-pow n) (fromDigits-lt (lit< tt) r)
-
--- Numbers are added digit by digit.
-pub fromDigits-xors : {xs ys : List ℕ} → length xs ≡ length ys → Below 256 xs → Below 256 ys
-    → fromDigits 256 (xors xs ys) ≡ fromDigits 256 xs ⊕ fromDigits 256 ys
-unfolding fromDigits xors
-fromDigits-xors e none r = refl
-fromDigits-xors e (more hx rx) none = let z : ⊥ = omega arith in absurd z
-fromDigits-xors e (more {x = x} {xs = xs} hx rx) (more {x = y} {xs = ys} hy ry) =
-    let l : length xs ≡ length ys = cc in
-    rw (length-xors xs ys, fromDigits-xors l rx ry, l, byte-pow (length ys))
-    (sym (xor-block (length ys * 8) x y (fromDigits 256 xs) (fromDigits 256 ys) (number-lt l rx) (number-lt refl ry)))
 
 columnBytes : List ℕ → ℕ → ℕ → List ℕ
 columnBytes m j y = product y (entry m 0 j) ∷ product y (entry m 1 j) ∷ product y (entry m 2 j) ∷ product y (entry m 3 j) ∷ []
@@ -52,9 +32,9 @@ module _ (m : List ℕ) (a b c d : ℕ) (ha : a < 256) (hb : b < 256) (hc : c < 
       ≡ columnTimes m 0 a ⊕ columnTimes m 1 b ⊕ columnTimes m 2 c ⊕ columnTimes m 3 d
   unfolding matrixTimes rowTimes columnTimes columnBytes xors
   matrixTimes-columns =
-      fromDigits-xors refl (below-xors 8 (below-xors 8 ra rb) rc) rd
-      ∙ ap (λ (w : ℕ). w ⊕ columnTimes m 3 d) (fromDigits-xors refl (below-xors 8 ra rb) rc)
-      ∙ ap (λ (w : ℕ). w ⊕ columnTimes m 2 c ⊕ columnTimes m 3 d) (fromDigits-xors refl ra rb)
+      fromDigits-xors 8 (below-xors 8 (below-xors 8 ra rb) rc) rd refl
+      ∙ ap (λ (w : ℕ). w ⊕ columnTimes m 3 d) (fromDigits-xors 8 (below-xors 8 ra rb) rc refl)
+      ∙ ap (λ (w : ℕ). w ⊕ columnTimes m 2 c ⊕ columnTimes m 3 d) (fromDigits-xors 8 ra rb refl)
     where
       ra : Below 256 (columnBytes m 0 a)
       ra = below-column m 0 a ha

@@ -2,44 +2,27 @@
 use Prim.Native.Nat.{ℕ, _+_, _*_, _≤_}
 use mathlib.Core.Path.{_≡_, sym, ap, _∙_}
 use mathlib.Core.List.{List}
-use borrow.Author.Tests.{leb-true, eqb-true}
-use lib.Dec.{leb}
+use borrow.Author.Tests.{leb-true}
 use lib.ListN.{length, take, drop}
 use Rattle.answer.specs.declared.Answer.{Answer}
 use Rattle.answer.specs.declared.Answer.the-variants.{Accepted, Refused}
 use Rattle.answer.specs.Answer.{answerOf}
 use Rattle.planbook_spec.specs.Outcome.{accepted}
 use Rattle.planbook_spec.specs.OutcomeLaws.{AllPass, pass-head, pass-tail}
-use Rattle.planbook_spec.specs.Book.{sheetCount, contents, recordCount, formChecks}
+use Rattle.planbook_spec.specs.Book.{sheetCount, formChecks}
 use Rattle.form.specs.Form.{headAnswer, contentsAnswer, formAnswer}
 use Rattle.answer.specs.Judging.{stopped-first, passed-first, Went, went}
-use Rattle.form.specs.Tests.{second-passed}
 
 -- What passed checks say of a book's sizes.
 pub record HeadFits (book : List ℕ) : Type 0 where
   pub few : sheetCount book ≤ 64
   pub long : 4 + 24 * sheetCount book ≤ length book
 
-pub record Formed (book : List ℕ) : Type 0 where
-  pub few : sheetCount book ≤ 64
-  pub short : length book ≤ 65532
-  pub size : length book ≡ 4 + 24 * sheetCount book + 16 * recordCount (contents book)
-
 pub head-fits : (mark : ℕ) (book : List ℕ) → AllPass (take 4 (formChecks mark book)) → HeadFits book
 unfolding formChecks
 head-fits mark book p =
     let q : AllPass (drop 2 (take 4 (formChecks mark book))) = pass-tail (pass-tail p) in
     record { few = leb-true _ 64 (pass-head q); long = leb-true _ (length book) (pass-head (pass-tail q)) }
-
-pub formed : (mark : ℕ) (book : List ℕ) → AllPass (formChecks mark book) → Formed book
-unfolding formChecks
-formed mark book p =
-    let q : AllPass (drop 2 (formChecks mark book)) = pass-tail (pass-tail p) in
-    record {
-      few = leb-true _ 64 (pass-head q);
-      short = leb-true (length book) 65532 (second-passed (leb 4 (length book)) (leb (length book) 65532) (pass-head p));
-      size = eqb-true (length book) _ (pass-head (pass-tail (pass-tail (pass-tail q))));
-    }
 
 module _ (mark : ℕ) (book : List ℕ) {r : Answer} where
   pub form-stopped : {c : ℕ} → r ≡ headAnswer mark book → r ≡ Refused c → r ≡ formAnswer mark book

@@ -1,6 +1,6 @@
 pub mod Entry
 pub mod Form
-pub mod Tests
+pub mod AndLaws
 pub mod Walks
 pub mod FormLaws
 pub mod Blocks

@@ -15,7 +15,7 @@ use Rattle.form.specs.declared.entry.Sheet.{Sheet}
 use Rattle.form.specs.declared.entry.Entry.the-variants.{Good, Broken}
 use Rattle.form.specs.Entry.{sheetOf, entryOf}
 use Rattle.form.specs.Form.{contentsAnswer}
-use Rattle.form.specs.Tests.{third-passed}
+use Rattle.form.specs.AndLaws.{third-passed}
 
 -- A part of k elements from `at` on.
 pub part : (k at : ℕ) {end : ℕ} (bs : List ℕ) → end ≡ at + k → take (end - at) (drop at bs) ≡ take k (drop at bs)

@@ -4,13 +4,14 @@ ghost use mathlib.Core.List.{List};
 ghost use Prim.Native.Nat.{ℕ, _*_};
 ghost use lib.ListN.{length};
 ghost use Rattle.clefia_spec.specs.Words.{bytesOf};
-ghost use Rattle.planbook_spec.specs.Book.{trial, count, recordHolds, sheetHolds};
+ghost use Rattle.planbook_spec.specs.Book.{count, recordHolds, sheetHolds};
+ghost use Rattle.form.specs.Entry.{sheetOf};
 use super::entry;
 use super::entry::Sheet;
 
 // What holds of a record, on its four words: trial; entry; replicate, row and the high byte of the column; its low byte and three zero bytes.
 pub fn record_holds(sheet: Sheet, r: [u32; 4]) -> bool
-    ensures { λ b. ⌜ ((e : List ℕ) → sheet .trial ≡ trial e → b ≡ recordHolds e (bytesOf r)) ⌝ }
+    ensures { λ b. ⌜ ((e : List ℕ) → sheet ≡ sheetOf e → b ≡ recordHolds e (bytesOf r)) ⌝ }
 {
     let replicate = r[2] / 16777216;
     entry::all(

@@ -2,45 +2,46 @@
 ghost use Rattle.planbook_spec.specs.Outcome.{Answers};
 ghost use Rattle.planbook_spec.specs.Checks.{constantsCall, expandKeyCall, encryptBlockCall, decryptBlockCall};
 ghost use Rattle.planbook_spec.specs.Book.{encryptBookCall, decryptBookCall};
+use calls::Task;
 
 #[no_mangle]
-pub extern "C" fn planbook_constants(size: u64, out: &mut [u8]) -> u64
-    ensures { λ r. ⌜ Answers (constantsCall size (now (out .entry))) (now (out .entry)) r (now (out .exit)) ⌝ }
+pub extern "C" fn planbook_constants(key_length: u64, out: &mut [u8]) -> u64
+    ensures { λ r. ⌜ Answers (constantsCall «key_length» (now (out .entry))) (now (out .entry)) r (now (out .exit)) ⌝ }
 {
-    answer::number(calls::constants(size, out))
+    answer::number(calls::constants(key_length, out))
 }
 
 #[no_mangle]
 pub extern "C" fn planbook_expand_key(key: &[u8], way: u64, out: &mut [u8]) -> u64
     ensures { λ r. ⌜ Answers (expandKeyCall (now (key .entry)) way (now (out .entry))) (now (out .entry)) r (now (out .exit)) ⌝ }
 {
-    answer::number(calls::expand_key(key, way, out))
+    answer::number(calls::keyed_call(Task::ExpandKey, key, way, &[], &[], out))
 }
 
 #[no_mangle]
 pub extern "C" fn planbook_encrypt_block(key: &[u8], way: u64, block: &[u8], out: &mut [u8]) -> u64
     ensures { λ r. ⌜ Answers (encryptBlockCall (now (key .entry)) way (now (block .entry)) (now (out .entry))) (now (out .entry)) r (now (out .exit)) ⌝ }
 {
-    answer::number(calls::encrypt_block(key, way, block, out))
+    answer::number(calls::keyed_call(Task::EncryptBlock, key, way, &[], block, out))
 }
 
 #[no_mangle]
 pub extern "C" fn planbook_decrypt_block(key: &[u8], way: u64, block: &[u8], out: &mut [u8]) -> u64
     ensures { λ r. ⌜ Answers (decryptBlockCall (now (key .entry)) way (now (block .entry)) (now (out .entry))) (now (out .entry)) r (now (out .exit)) ⌝ }
 {
-    answer::number(calls::decrypt_block(key, way, block, out))
+    answer::number(calls::keyed_call(Task::DecryptBlock, key, way, &[], block, out))
 }
 
 #[no_mangle]
 pub extern "C" fn planbook_encrypt_book(key: &[u8], way: u64, book: &[u8], out: &mut [u8]) -> u64
     ensures { λ r. ⌜ Answers (encryptBookCall (now (key .entry)) way (now (book .entry)) (now (out .entry))) (now (out .entry)) r (now (out .exit)) ⌝ }
 {
-    answer::number(calls::encrypt_book(key, way, book, out))
+    answer::number(calls::keyed_call(Task::EncryptBook, key, way, &[], book, out))
 }
 
 #[no_mangle]
 pub extern "C" fn planbook_decrypt_book(key: &[u8], way: u64, book: &[u8], out: &mut [u8]) -> u64
     ensures { λ r. ⌜ Answers (decryptBookCall (now (key .entry)) way (now (book .entry)) (now (out .entry))) (now (out .entry)) r (now (out .exit)) ⌝ }
 {
-    answer::number(calls::decrypt_book(key, way, book, out))
+    answer::number(calls::keyed_call(Task::DecryptBook, key, way, &[], book, out))
 }

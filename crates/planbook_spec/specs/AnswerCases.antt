@@ -1,6 +1,6 @@
 -- The edges of the checks, and a book of two sheets under a toy cipher, of the definitions: computed lists. No theorem of the demands sees a slip that
 -- both calls share, such as one chain that runs on through all sheets, or a check that lets too much through; these cases do.
-use Prim.Native.Nat.{ℕ, _+_, _*_, _^_}
+use Prim.Native.Nat.{ℕ, zero, suc, _+_, _*_, _^_}
 use mathlib.Core.List.{List, [], _∷_, _++_}
 use mathlib.Core.Path.{refl}
 use lib.ListN.{take, drop, set, replicate}
@@ -19,14 +19,19 @@ abbrev pub toyDecrypt : List ℕ → List ℕ
 toyDecrypt x = drop 15 x ++ take 15 x
 
 -- The answers of the two calls, with an output of the right length.
-abbrev pub sealing : List ℕ → ℕ
-sealing book = answer (encryptBookBy [] toyEncrypt book book)
+abbrev pub encrypting : List ℕ → ℕ
+encrypting book = answer (encryptBookBy [] toyEncrypt book book)
 
-abbrev pub opening : List ℕ → ℕ
-opening book = answer (decryptBookBy [] toyDecrypt book book)
+abbrev pub decrypting : List ℕ → ℕ
+decrypting book = answer (decryptBookBy [] toyDecrypt book book)
+
+-- n numbers from v on: an iv whose bytes all differ.
+unfoldable pub rising : ℕ → ℕ → List ℕ
+rising zero v = []
+rising (suc n) v = v ∷ rising n (v + 1)
 
 abbrev pub entryOf : ℕ → ℕ → ℕ → List ℕ
-entryOf t n v = 0 ∷ 0 ∷ 0 ∷ t ∷ 0 ∷ n ∷ 0 ∷ 0 ∷ replicate 16 v
+entryOf t n v = 0 ∷ 0 ∷ 0 ∷ t ∷ 0 ∷ n ∷ 0 ∷ 0 ∷ rising 16 v
 
 -- A clear book of one record: trial 41, entry 7, replicate 2. The entry stands at byte 4, the record at byte 28.
 abbrev pub small : List ℕ
@@ -43,65 +48,78 @@ large =
     ++ (0 ∷ 0 ∷ 0 ∷ 0x29 ∷ 0 ∷ 0 ∷ 0 ∷ 8 ∷ 4 ∷ 0xff ∷ 0xff ∷ 0xff ∷ 0xff ∷ 0 ∷ 0 ∷ 0 ∷ [])
     ++ (0 ∷ 0 ∷ 0 ∷ 0x2a ∷ 0 ∷ 0 ∷ 0 ∷ 7 ∷ 1 ∷ 0 ∷ 0 ∷ 0 ∷ 0 ∷ 0 ∷ 0 ∷ 0 ∷ [])
 
--- What it is sealed to. The second record is added to the first sealed one; the third, in a sheet of its own, to its own iv.
-abbrev pub sealedLarge : List ℕ
-sealedLarge =
+-- What it is encrypted to. The second record is added to the first encrypted one; the third, in a sheet of its own, to its own iv.
+abbrev pub encryptedLarge : List ℕ
+encryptedLarge =
     2 ∷ 0 ∷ 0 ∷ 2 ∷ twoEntries
-    ++ (0x10 ∷ 0x10 ∷ 0x39 ∷ 0x10 ∷ 0x10 ∷ 0x10 ∷ 0x17 ∷ 0x12 ∷ 0x10 ∷ 0x1c ∷ 0x10 ∷ 0x13 ∷ 0x10 ∷ 0x10 ∷ 0x10 ∷ 0x10 ∷ [])
-    ++ (0x10 ∷ 0x39 ∷ 0x39 ∷ 0x10 ∷ 0x10 ∷ 0x17 ∷ 0x1a ∷ 0x14 ∷ 0xe3 ∷ 0xef ∷ 0xec ∷ 0xef ∷ 0x10 ∷ 0x10 ∷ 0x10 ∷ 0x10 ∷ [])
-    ++ (0x20 ∷ 0x20 ∷ 0x0a ∷ 0x20 ∷ 0x20 ∷ 0x20 ∷ 0x27 ∷ 0x21 ∷ 0x20 ∷ 0x20 ∷ 0x20 ∷ 0x20 ∷ 0x20 ∷ 0x20 ∷ 0x20 ∷ 0x20 ∷ [])
+    ++ (0x11 ∷ 0x12 ∷ 0x3a ∷ 0x14 ∷ 0x15 ∷ 0x16 ∷ 0x10 ∷ 0x1a ∷ 0x19 ∷ 0x16 ∷ 0x1b ∷ 0x1f ∷ 0x1d ∷ 0x1e ∷ 0x1f ∷ 0x10 ∷ [])
+    ++ (0x12 ∷ 0x3a ∷ 0x3d ∷ 0x15 ∷ 0x16 ∷ 0x10 ∷ 0x12 ∷ 0x1d ∷ 0xe9 ∷ 0xe4 ∷ 0xe0 ∷ 0xe2 ∷ 0x1e ∷ 0x1f ∷ 0x10 ∷ 0x11 ∷ [])
+    ++ (0x21 ∷ 0x22 ∷ 0x09 ∷ 0x24 ∷ 0x25 ∷ 0x26 ∷ 0x20 ∷ 0x29 ∷ 0x29 ∷ 0x2a ∷ 0x2b ∷ 0x2c ∷ 0x2d ∷ 0x2e ∷ 0x2f ∷ 0x20 ∷ [])
 
 pub bookCases : List Case
 bookCases =
-    (sealing large ∷ after large (encryptBookBy [] toyEncrypt large large) gives 3 ∷ sealedLarge)
-    ∷ (opening sealedLarge ∷ after sealedLarge (decryptBookBy [] toyDecrypt sealedLarge sealedLarge) gives 3 ∷ large)
+    (encrypting large ∷ after large (encryptBookBy [] toyEncrypt large large) gives 3 ∷ encryptedLarge)
+    ∷ (decrypting encryptedLarge ∷ after encryptedLarge (decryptBookBy [] toyDecrypt encryptedLarge encryptedLarge) gives 3 ∷ large)
     -- 5: three bytes; one byte too many
-    ∷ (sealing (1 ∷ 0 ∷ 0 ∷ []) ∷ [] gives 5 * 2 ^ 32 ∷ [])
-    ∷ (sealing (replicate 65533 1) ∷ [] gives 5 * 2 ^ 32 ∷ [])
-    -- 6: the first byte, the second
-    ∷ (sealing (set small 0 2) ∷ [] gives 6 * 2 ^ 32 ∷ [])
-    ∷ (sealing (set small 1 1) ∷ [] gives 6 * 2 ^ 32 ∷ [])
+    ∷ (encrypting (1 ∷ 0 ∷ 0 ∷ []) ∷ [] gives 5 * 2 ^ 32 ∷ [])
+    ∷ (encrypting (replicate 65533 1) ∷ [] gives 5 * 2 ^ 32 ∷ [])
+    -- 65,532 bytes pass 5
+    ∷ (encrypting (replicate 65532 1) ∷ [] gives 6 * 2 ^ 32 ∷ [])
+    -- 6: the first byte, the second; and before 7
+    ∷ (encrypting (set small 0 2) ∷ [] gives 6 * 2 ^ 32 ∷ [])
+    ∷ (encrypting (set small 1 1) ∷ [] gives 6 * 2 ^ 32 ∷ [])
+    ∷ (encrypting (set (set small 0 2) 3 65) ∷ [] gives 6 * 2 ^ 32 ∷ [])
     -- 7: 65 sheets; 257 sheets
-    ∷ (sealing (set small 3 65) ∷ [] gives 7 * 2 ^ 32 ∷ [])
-    ∷ (sealing (set small 2 1) ∷ [] gives 7 * 2 ^ 32 ∷ [])
+    ∷ (encrypting (set small 3 65) ∷ [] gives 7 * 2 ^ 32 ∷ [])
+    ∷ (encrypting (set small 2 1) ∷ [] gives 7 * 2 ^ 32 ∷ [])
     -- 8: 64 sheets pass, and their contents are not there
-    ∷ (sealing (set small 3 64) ∷ [] gives 8 * 2 ^ 32 ∷ [])
-    ∷ (sealing (take 27 small) ∷ [] gives 8 * 2 ^ 32 ∷ [])
+    ∷ (encrypting (set small 3 64) ∷ [] gives 8 * 2 ^ 32 ∷ [])
+    ∷ (encrypting (take 27 small) ∷ [] gives 8 * 2 ^ 32 ∷ [])
     -- 9: trial 0; no record; 1025 records; each of the two zero bytes; trials that do not rise
-    ∷ (sealing (set small 7 0) ∷ [] gives 9 * 2 ^ 32 ∷ [])
-    ∷ (sealing (set small 9 0) ∷ [] gives 9 * 2 ^ 32 ∷ [])
-    ∷ (sealing (set (set small 8 4) 9 1) ∷ [] gives 9 * 2 ^ 32 ∷ [])
-    ∷ (sealing (set small 10 1) ∷ [] gives 9 * 2 ^ 32 ∷ [])
-    ∷ (sealing (set small 11 1) ∷ [] gives 9 * 2 ^ 32 ∷ [])
-    ∷ (sealing (set large 31 41) ∷ [] gives 9 * 2 ^ 32 ∷ [])
+    ∷ (encrypting (set small 7 0) ∷ [] gives 9 * 2 ^ 32 ∷ [])
+    ∷ (encrypting (set small 9 0) ∷ [] gives 9 * 2 ^ 32 ∷ [])
+    ∷ (encrypting (set (set small 8 4) 9 1) ∷ [] gives 9 * 2 ^ 32 ∷ [])
+    ∷ (encrypting (set small 10 1) ∷ [] gives 9 * 2 ^ 32 ∷ [])
+    ∷ (encrypting (set small 11 1) ∷ [] gives 9 * 2 ^ 32 ∷ [])
+    ∷ (encrypting (set large 31 41) ∷ [] gives 9 * 2 ^ 32 ∷ [])
     -- 10: 1024 records pass, and are not there; a byte too few; a byte too many
-    ∷ (sealing (set (set small 8 4) 9 0) ∷ [] gives 10 * 2 ^ 32 ∷ [])
-    ∷ (sealing (take 43 small) ∷ [] gives 10 * 2 ^ 32 ∷ [])
-    ∷ (sealing (small ++ (0 ∷ [])) ∷ [] gives 10 * 2 ^ 32 ∷ [])
-    -- 11: the trial of another sheet; entry 0; replicates 0 and 5; each of the three zero bytes; the last record of two sheets
-    ∷ (sealing (set small 31 42) ∷ [] gives 11 * 2 ^ 32 ∷ [])
-    ∷ (sealing (set small 35 0) ∷ [] gives 11 * 2 ^ 32 ∷ [])
-    ∷ (sealing (set small 36 0) ∷ [] gives 11 * 2 ^ 32 ∷ [])
-    ∷ (sealing (set small 36 5) ∷ [] gives 11 * 2 ^ 32 ∷ [])
-    ∷ (sealing (set small 41 1) ∷ [] gives 11 * 2 ^ 32 ∷ [])
-    ∷ (sealing (set small 42 1) ∷ [] gives 11 * 2 ^ 32 ∷ [])
-    ∷ (sealing (set small 43 1) ∷ [] gives 11 * 2 ^ 32 ∷ [])
-    ∷ (sealing (set large 92 0) ∷ [] gives 11 * 2 ^ 32 ∷ [])
-    -- accepted: replicate 4; any row and column; the highest trial and entry
-    ∷ (sealing (set small 36 4) ∷ [] gives 1 ∷ [])
-    ∷ (sealing (sets small 37 (255 ∷ 255 ∷ 255 ∷ 255 ∷ [])) ∷ [] gives 1 ∷ [])
-    ∷ (sealing (sets (sets small 28 (replicate 8 255)) 4 (replicate 4 255)) ∷ [] gives 1 ∷ [])
+    ∷ (encrypting (set (set small 8 4) 9 0) ∷ [] gives 10 * 2 ^ 32 ∷ [])
+    ∷ (encrypting (take 43 small) ∷ [] gives 10 * 2 ^ 32 ∷ [])
+    ∷ (encrypting (small ++ (0 ∷ [])) ∷ [] gives 10 * 2 ^ 32 ∷ [])
+    -- 10 comes before 11
+    ∷ (encrypting (set (take 43 small) 35 0) ∷ [] gives 10 * 2 ^ 32 ∷ [])
+    -- 11: a trial above its sheet's, below it, and one that differs in its first byte; entry 0; replicates 0 and 5; each of the three zero bytes; the second
+    -- record of a sheet, and the last of two sheets
+    ∷ (encrypting (set small 31 42) ∷ [] gives 11 * 2 ^ 32 ∷ [])
+    ∷ (encrypting (set small 31 40) ∷ [] gives 11 * 2 ^ 32 ∷ [])
+    ∷ (encrypting (set small 28 1) ∷ [] gives 11 * 2 ^ 32 ∷ [])
+    ∷ (encrypting (set small 35 0) ∷ [] gives 11 * 2 ^ 32 ∷ [])
+    ∷ (encrypting (set small 36 0) ∷ [] gives 11 * 2 ^ 32 ∷ [])
+    ∷ (encrypting (set small 36 5) ∷ [] gives 11 * 2 ^ 32 ∷ [])
+    ∷ (encrypting (set small 41 1) ∷ [] gives 11 * 2 ^ 32 ∷ [])
+    ∷ (encrypting (set small 42 1) ∷ [] gives 11 * 2 ^ 32 ∷ [])
+    ∷ (encrypting (set small 43 1) ∷ [] gives 11 * 2 ^ 32 ∷ [])
+    ∷ (encrypting (set large 76 0) ∷ [] gives 11 * 2 ^ 32 ∷ [])
+    ∷ (encrypting (set large 92 0) ∷ [] gives 11 * 2 ^ 32 ∷ [])
+    -- accepted: entry 1, and one that has its first byte alone; a trial that has its first byte alone; replicate 4; any row and column; the highest trial
+    -- and entry
+    ∷ (encrypting (set small 35 1) ∷ [] gives 1 ∷ [])
+    ∷ (encrypting (sets small 32 (1 ∷ 0 ∷ 0 ∷ 0 ∷ [])) ∷ [] gives 1 ∷ [])
+    ∷ (encrypting (sets (sets small 28 (1 ∷ 0 ∷ 0 ∷ 0 ∷ [])) 4 (1 ∷ 0 ∷ 0 ∷ 0 ∷ [])) ∷ [] gives 1 ∷ [])
+    ∷ (encrypting (set small 36 4) ∷ [] gives 1 ∷ [])
+    ∷ (encrypting (sets small 37 (255 ∷ 255 ∷ 255 ∷ 255 ∷ [])) ∷ [] gives 1 ∷ [])
+    ∷ (encrypting (sets (sets small 28 (replicate 8 255)) 4 (replicate 4 255)) ∷ [] gives 1 ∷ [])
     -- 4 comes before 5
     ∷ (answer (encryptBookBy [] toyEncrypt (1 ∷ 0 ∷ 0 ∷ []) (replicate 4 0)) ∷ [] gives 4 * 2 ^ 32 ∷ [])
-    -- opening: a clear book; clear records under the mark of a sealed book; replicate 5, and 4, once the chain is undone
-    ∷ (opening (set sealedLarge 0 1) ∷ [] gives 6 * 2 ^ 32 ∷ [])
-    ∷ (opening (set large 0 2) ∷ [] gives 11 * 2 ^ 32 ∷ [])
-    ∷ (opening (set sealedLarge 91 0x25) ∷ [] gives 11 * 2 ^ 32 ∷ [])
-    ∷ (opening (set sealedLarge 91 0x24) ∷ [] gives 3 ∷ [])
+    -- decrypting: a clear book; clear records under the mark of a sealed book; replicate 5, and 4, once the chain is undone
+    ∷ (decrypting (set encryptedLarge 0 1) ∷ [] gives 6 * 2 ^ 32 ∷ [])
+    ∷ (decrypting (set large 0 2) ∷ [] gives 11 * 2 ^ 32 ∷ [])
+    ∷ (decrypting (set encryptedLarge 91 0x2d) ∷ [] gives 11 * 2 ^ 32 ∷ [])
+    ∷ (decrypting (set encryptedLarge 91 0x2c) ∷ [] gives 3 ∷ [])
     ∷ []
 
 pub bookCases-hold : AllHold bookCases
-unfolding bookCases allSame fromDigits xors answer after judged outputCheck number pieces entryHolds entriesHold recordHolds allRecordsHold recordCount formChecks eachBody sheetsHold recordsCheck cbcEncrypt cbcDecrypt encryptBody decryptBody recoded bookChecks encryptBookBy decryptBookBy
+unfolding bookCases rising allSame fromDigits xors answer after judged outputCheck number pieces entryHolds entriesHold recordHolds allRecordsHold recordCount formChecks eachBody sheetsHold recordsCheck cbcEncrypt cbcDecrypt encryptBody decryptBody recoded bookChecks encryptBookBy decryptBookBy
 bookCases-hold = computed bookCases refl
 
 -- Checks 1 to 5, most with two or more that fail at once.

@@ -129,9 +129,13 @@ decryptBody D e body = cbcDecrypt D (count e) (iv e) body
 unfoldable pub recoded : ℕ → (List ℕ → List ℕ → List ℕ) → List ℕ → List ℕ
 recoded mark f book = mark ∷ take 3 (drop 1 book) ++ (take (24 * sheetCount book) (drop 4 book) ++ eachBody f (contents book) (bodies book))
 
--- The checks of a call on a whole book: some list cs about key and way, then 4, 5 to 10, and 11.
+-- Checks 5 to 11, which look at the book alone: a call may have check 4 before them or after them.
+abbrev pub formAndRecords : ℕ → (List ℕ → List ℕ → List ℕ) → List ℕ → List Check
+formAndRecords mark f book = formChecks mark book ++ (recordsCheck f book ∷ [])
+
+-- The checks of a call on a whole book: some list cs about key and way, then 4, and 5 to 11.
 unfoldable pub bookChecks : List Check → ℕ → (List ℕ → List ℕ → List ℕ) → List ℕ → List ℕ → List Check
-bookChecks cs mark f book out = cs ++ (outputCheck (length book) out ∷ (formChecks mark book ++ (recordsCheck f book ∷ [])))
+bookChecks cs mark f book out = cs ++ (outputCheck (length book) out ∷ formAndRecords mark f book)
 
 -- A book encrypted and decrypted by any E and D: the count is R. In a book to be decrypted, check 11 looks at the records after the chain is undone.
 unfoldable pub encryptBookBy : List Check → (List ℕ → List ℕ) → List ℕ → List ℕ → Outcome
@@ -144,12 +148,12 @@ decryptBookBy cs D book out =
 
 -- The book that a clear book must become when it is sealed under a key, made from the two alone: no way enters. In each sheet the first record, added to
 -- the iv, is encrypted under the key, and each later record likewise, added to the encrypted record before it.
-unfoldable pub sealedBook : List ℕ → List ℕ → List ℕ
-sealedBook key book = recoded 2 (encryptBody (encrypt key)) book
+unfoldable pub encryptedBook : List ℕ → List ℕ → List ℕ
+encryptedBook key book = recoded 2 (encryptBody (encrypt key)) book
 
 -- The inverse (opening).
-unfoldable pub openedBook : List ℕ → List ℕ → List ℕ
-openedBook key book = recoded 1 (decryptBody (decrypt key)) book
+unfoldable pub decryptedBook : List ℕ → List ℕ → List ℕ
+decryptedBook key book = recoded 1 (decryptBody (decrypt key)) book
 
 -- A book sealed and opened under a key: checks 1, 2, 4, 5 to 10, 11; then R, and the book.
 unfoldable pub encryptBookCall : List ℕ → ℕ → List ℕ → List ℕ → Outcome

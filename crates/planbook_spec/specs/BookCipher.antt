@@ -1,27 +1,31 @@
 -- Books encrypted and decrypted by any block cipher: each call takes the other back, and two books encrypted alike are alike. The checks about key and
 -- way stay open here, a list cs that is passed; so the theorems serve a key as well as words that no key gives.
 use Prim.Native.Nat.{ℕ}
-use mathlib.Core.List.{List, [], _∷_, _++_}
+use mathlib.Core.List.{List}
 use mathlib.Core.Logic.{_↔_}
 use mathlib.Core.Path.{_≡_, refl, sym, ap, ap₂, _∙_}
 use lib.ListN.{length}
 use Rattle.clefia_spec.specs.Words.{Below}
+use Rattle.clefia_spec.specs.RowLaws.{Bytes, sized-take, sized-drop}
 use Rattle.planbook_spec.specs.Outcome.{accepted, Check, judged}
 use Rattle.planbook_spec.specs.OutcomeLaws.{AllPass, pass-left, pass-right, pass-tail, pass-append, judged-pass, Passed, passed}
 use Rattle.planbook_spec.specs.CheckLaws.{output-passes, output-size}
-use Rattle.planbook_spec.specs.Book.{iv, contents, recordCount, formChecks, recordsCheck, asItIs, encryptBody, decryptBody, recoded, bookChecks, encryptBookBy, decryptBookBy}
-use Rattle.planbook_spec.specs.Undoing.{Bytes, BlockCipher, bytes-take, bytes-drop, Every, every-map, Through, body-encrypted, body-decrypted}
-use Rattle.planbook_spec.specs.BookLaws.{Shaped, shape, shaped-entries, recoded-length, recoded-contents, recoded-form, recoded-records, recoded-through, recoded-asItIs}
+use Rattle.planbook_spec.specs.Book.{iv, contents, recordCount, formChecks, formAndRecords, asItIs, encryptBody, decryptBody, recoded, bookChecks, encryptBookBy, decryptBookBy}
+use Rattle.planbook_spec.specs.Undoing.{BlockCipher, Every, every-map, Through, body-encrypted, body-decrypted}
+use Rattle.planbook_spec.specs.BookLaws.{Formed, formed, Shaped, shape, shaped-entries, recoded-length, recoded-contents, recoded-form, recoded-records, recoded-through, recoded-asItIs}
 
 -- The checks of form and records are among a book's checks.
 book-form : (cs : List Check) (mark : ℕ) (f : List ℕ → List ℕ → List ℕ) (book out : List ℕ) → AllPass (bookChecks cs mark f book out)
-    → AllPass (formChecks mark book ++ (recordsCheck f book ∷ []))
+    → AllPass (formAndRecords mark f book)
 unfolding bookChecks
 book-form cs mark f book out p = pass-tail (pass-right cs _ p)
 
 book-output : (cs : List Check) (mark : ℕ) (f : List ℕ → List ℕ → List ℕ) (book out : List ℕ) → AllPass (bookChecks cs mark f book out) → length out ≡ length book
 unfolding bookChecks
 book-output cs mark f book out p = output-size out (pass-right cs _ p)
+
+pub book-formed : (cs : List Check) (mark : ℕ) (f : List ℕ → List ℕ → List ℕ) (book out : List ℕ) → AllPass (bookChecks cs mark f book out) → Formed book
+book-formed cs mark f book out p = formed mark book (pass-left (formChecks mark book) _ (book-form cs mark f book out p))
 
 -- A book that one call accepts has its shape.
 book-shape : (cs : List Check) (mark : ℕ) (f : List ℕ → List ℕ → List ℕ) (book out : List ℕ) → Below 256 book → AllPass (bookChecks cs mark f book out)
@@ -43,13 +47,13 @@ module _ {f g h k : List ℕ → List ℕ → List ℕ} (mark mark′ : ℕ) (cs
   unfolding bookChecks
   comes-back r p t u q e =
       let s : Shaped mark book = book-shape cs mark h book out r p in
-      let again : AllPass (formChecks mark′ (recoded mark′ f book) ++ (recordsCheck g (recoded mark′ f book) ∷ [])) =
+      let again : AllPass (formAndRecords mark′ g (recoded mark′ f book)) =
       rw (recoded-form mark mark′ s t, recoded-records mark mark′ s t) (book-form cs mark h book out p) in
       judged-pass (pass-append q (pass-append (output-passes _ out′ (e ∙ sym (recoded-length mark mark′ s t))) again)) _
       ∙ ap₂ accepted (ap recordCount (recoded-contents mark mark′ s t)) (recoded-through mark mark′ s u ∙ recoded-asItIs s)
 
 iv-bytes : (e : List ℕ) → Bytes 24 e → Bytes 16 (iv e)
-iv-bytes e b = bytes-take 16 0 (bytes-drop 8 16 b refl) refl
+iv-bytes e b = sized-take 16 0 (sized-drop 8 16 b refl) refl
 
 module _ (E D : List ℕ → List ℕ) (block : BlockCipher E D) where
   entries-encrypted : {mark : ℕ} {book : List ℕ} → Shaped mark book → Every (Through (encryptBody E) (decryptBody D) asItIs) (contents book)
@@ -59,8 +63,8 @@ module _ (E D : List ℕ → List ℕ) (block : BlockCipher E D) where
   entries-decrypted s = every-map (λ e b. body-decrypted E D block e (iv-bytes e b)) (shaped-entries s)
 
   -- Decrypted, and then looked at as it is.
-  entries-opened : {mark : ℕ} {book : List ℕ} → Shaped mark book → Every (Through (decryptBody D) asItIs (decryptBody D)) (contents book)
-  entries-opened s = every-map (λ e t. record { keeps = t .keeps; meets = λ x b. refl }) (entries-decrypted s)
+  entries-as-decrypted : {mark : ℕ} {book : List ℕ} → Shaped mark book → Every (Through (decryptBody D) asItIs (decryptBody D)) (contents book)
+  entries-as-decrypted s = every-map (λ e t. record { keeps = t .keeps; meets = λ x b. refl }) (entries-decrypted s)
 
   pub encrypted-decrypts : (cs cs′ : List Check) (book out out′ : List ℕ) {n : ℕ} {bs : List ℕ} → Below 256 book
       → encryptBookBy cs E book out ≡ accepted n bs → AllPass cs′ → length out′ ≡ length book → decryptBookBy cs′ D bs out′ ≡ accepted n book
@@ -76,7 +80,7 @@ module _ (E D : List ℕ → List ℕ) (block : BlockCipher E D) where
   decrypted-encrypts cs cs′ book out out′ {n} {bs} r a q e =
       let p : Passed (bookChecks cs 2 (decryptBody D) book out) _ n _ bs = passed _ _ _ a in
       let s : Shaped 2 book = book-shape cs 2 (decryptBody D) book out r (p .checks) in
-      rw (← p .sameBytes, ← p .sameCount) (comes-back 2 1 cs cs′ book out out′ r (p .checks) (entries-opened s) (entries-decrypted s) q e)
+      rw (← p .sameBytes, ← p .sameCount) (comes-back 2 1 cs cs′ book out out′ r (p .checks) (entries-as-decrypted s) (entries-decrypted s) q e)
 
   -- What an accepted call gives is the recoded book.
   pub encrypted-is : (cs : List Check) (book out : List ℕ) {n : ℕ} {bs : List ℕ} → encryptBookBy cs E book out ≡ accepted n bs → bs ≡ recoded 2 (encryptBody E) book

@@ -1,17 +1,19 @@
 -- A book recoded: its head and contents stay, its checks stay, and a coding that takes the bodies back takes the book back.
-use Prim.Native.Nat.{ℕ, zero, suc, _+_, _*_, _≤_}
+use Prim.Native.Nat.{ℕ, zero, suc, _+_, _*_, _^_, _≤_, _<_}
 use mathlib.Core.Bool.{Bool, true, false, _&&_, false≢true}
 use mathlib.Core.List.{List, [], _∷_, _++_}
 use mathlib.Core.Path.{_≡_, refl, sym, ap, _∙_, subst}
 use native.Mathlib.Omega.{arith}
-use borrow.Author.Tests.{eqb-true, eq-eqb}
+use borrow.Author.Tests.{leb-true, eqb-true, eq-eqb}
+use lib.Dec.{leb}
 use lib.ListN.{length, take, drop, length-drop, take-append-drop}
-use lib.Seq.{length-take-le, take-at, drop-at, take-append-le, drop-append-le}
+use lib.Seq.{take-at, drop-at, take-append-le, drop-append-le}
 use Rattle.clefia_spec.specs.Words.{fromDigits, Below, more}
+use Rattle.clefia_spec.specs.RowLaws.{Bytes, sized-append, sized-take, sized-drop}
 use Rattle.planbook_spec.specs.Outcome.{check}
 use Rattle.planbook_spec.specs.OutcomeLaws.{AllPass, pass-head, pass-tail}
-use Rattle.planbook_spec.specs.Book.{number, pieces, contents, recordCount, formChecks, eachBody, sheetsHold, recordsCheck, asItIs, recoded}
-use Rattle.planbook_spec.specs.Undoing.{Bytes, bytes-append, bytes-take, bytes-drop, Every, nothing, both, Through, each-keeps, each-through, each-asItIs, sheets-through}
+use Rattle.planbook_spec.specs.Book.{number, pieces, sheetCount, contents, recordCount, formChecks, eachBody, sheetsHold, recordsCheck, asItIs, recoded}
+use Rattle.planbook_spec.specs.Undoing.{Every, nothing, both, Through, each-keeps, each-through, each-asItIs, sheets-through}
 
 -- ---- pieces
 
@@ -23,14 +25,10 @@ pieces-append k (suc n) xs ys e =
     let fits : k ≤ length xs = omega arith in
     rw (take-append-le k xs ys fits, drop-append-le k xs ys fits, pieces-append k n (drop k xs) ys (omega (arith, length-drop k xs)))
 
-pub pieces-take : (k n : ℕ) (xs : List ℕ) → k * n ≤ length xs → pieces k n (take (k * n) xs) ≡ pieces k n xs
-pieces-take k n xs h =
-    sym (pieces-append k n (take (k * n) xs) (drop (k * n) xs) (length-take-le (k * n) xs h)) ∙ ap (pieces k n) (take-append-drop (k * n) xs)
-
 pub pieces-bytes : (k n m : ℕ) {xs : List ℕ} → Bytes (k * n + m) xs → Every (Bytes k) (pieces k n xs)
 unfolding pieces
 pieces-bytes k zero m b = nothing
-pieces-bytes k (suc n) m b = both (bytes-take k (k * n + m) b (omega arith)) (pieces-bytes k n m (bytes-drop k (k * n + m) b (omega arith)))
+pieces-bytes k (suc n) m b = both (sized-take k (k * n + m) b (omega arith)) (pieces-bytes k n m (sized-drop k (k * n + m) b (omega arith)))
 
 -- ---- what follows the head
 
@@ -39,10 +37,10 @@ recodedRest f n bs = take (24 * n) bs ++ eachBody f (pieces 24 n bs) (drop (24 *
 
 module _ {f g h : List ℕ → List ℕ → List ℕ} (n : ℕ) (bs : List ℕ) (b : Bytes (24 * n + 16 * recordCount (pieces 24 n bs)) bs) (t : Every (Through f g h) (pieces 24 n bs)) where
   front : Bytes (24 * n) (take (24 * n) bs)
-  front = bytes-take (24 * n) (16 * recordCount (pieces 24 n bs)) b refl
+  front = sized-take (24 * n) (16 * recordCount (pieces 24 n bs)) b refl
 
   back : Bytes (16 * recordCount (pieces 24 n bs)) (drop (24 * n) bs)
-  back = bytes-drop (24 * n) (16 * recordCount (pieces 24 n bs)) b refl
+  back = sized-drop (24 * n) (16 * recordCount (pieces 24 n bs)) b refl
 
   rest-front : take (24 * n) (recodedRest f n bs) ≡ take (24 * n) bs
   rest-front = take-at (take (24 * n) bs) _ (24 * n) (front .size)
@@ -57,7 +55,7 @@ module _ {f g h : List ℕ → List ℕ → List ℕ} (n : ℕ) (bs : List ℕ) 
       ∙ ap (pieces 24 n) (take-append-drop (24 * n) bs)
 
   rest-keeps : Bytes (24 * n + 16 * recordCount (pieces 24 n bs)) (recodedRest f n bs)
-  rest-keeps = bytes-append (24 * n) (16 * recordCount (pieces 24 n bs)) front (each-keeps t (drop (24 * n) bs) back) refl
+  rest-keeps = sized-append (24 * n) (16 * recordCount (pieces 24 n bs)) front (each-keeps t (drop (24 * n) bs) back) refl
 
   rest-through : recodedRest g n (recodedRest f n bs) ≡ recodedRest h n bs
   rest-through =
@@ -74,9 +72,33 @@ pub data Shaped (mark : ℕ) : List ℕ → Type 0 where
       → Bytes (24 * fromDigits 256 (c ∷ d ∷ []) + 16 * recordCount (pieces 24 (fromDigits 256 (c ∷ d ∷ [])) bs)) bs
       → Shaped mark (mark ∷ b ∷ c ∷ d ∷ bs)
 
-and-left : (x y : Bool) → x && y ≡ true → x ≡ true
+pub and-left : (x y : Bool) → x && y ≡ true → x ≡ true
 and-left true y e = refl
 and-left false y e = e
+
+pub and-right : (x y : Bool) → x && y ≡ true → y ≡ true
+and-right true y e = e
+and-right false y e = absurd (false≢true e)
+
+-- What checks 5 to 10 say of a book's sizes, once they are passed.
+pub record Formed (book : List ℕ) : Type 0 where
+  pub few : sheetCount book ≤ 64
+  pub short : length book ≤ 65532
+  pub size : length book ≡ 4 + 24 * sheetCount book + 16 * recordCount (contents book)
+
+pub formed : (mark : ℕ) (book : List ℕ) → AllPass (formChecks mark book) → Formed book
+unfolding formChecks
+formed mark book p =
+    let q : AllPass (drop 2 (formChecks mark book)) = pass-tail (pass-tail p) in
+    record {
+      few = leb-true _ 64 (pass-head q);
+      short = leb-true (length book) 65532 (and-right (leb 4 (length book)) (leb (length book) 65532) (pass-head p));
+      size = eqb-true (length book) _ (pass-head (pass-tail (pass-tail (pass-tail q))));
+    }
+
+-- So the count of a book's records is below 2 ^ 32, by far.
+pub formed-count : {book : List ℕ} → Formed book → recordCount (contents book) < 2 ^ 32
+formed-count f = omega (arith, f .short, f .size)
 
 below-tail : {x : ℕ} {xs : List ℕ} → Below 256 (x ∷ xs) → Below 256 xs
 below-tail (more h r) = r
@@ -91,8 +113,7 @@ shape mark (a ∷ b ∷ c ∷ []) r p = absurd (false≢true (pass-head p))
 shape mark (a ∷ b ∷ c ∷ d ∷ bs) r p =
     let first : a ≡ mark = eqb-true a mark (and-left _ _ (pass-head (pass-tail p))) in
     let n : ℕ = fromDigits 256 (c ∷ d ∷ []) in
-    let size : suc (suc (suc (suc (length bs)))) ≡ 4 + 24 * n + 16 * recordCount (pieces 24 n bs) =
-    eqb-true _ _ (pass-head (pass-tail (pass-tail (pass-tail (pass-tail (pass-tail p)))))) in
+    let size : suc (suc (suc (suc (length bs)))) ≡ 4 + 24 * n + 16 * recordCount (pieces 24 n bs) = formed mark (a ∷ b ∷ c ∷ d ∷ bs) p .size in
     subst (λ (x : ℕ). Shaped mark (x ∷ b ∷ c ∷ d ∷ bs)) (sym first)
     (shaped b c d (record { size = omega (arith, size); below = below-tail (below-tail (below-tail (below-tail r))) }))
 
@@ -132,5 +153,5 @@ unfolding recoded number
 recoded-asItIs {mark} (shaped b c d {bs = bs} q) =
     let n : ℕ = fromDigits 256 (c ∷ d ∷ []) in
     ap (λ (l : List ℕ). mark ∷ b ∷ c ∷ d ∷ l)
-    (ap (λ (l : List ℕ). take (24 * n) bs ++ l) (each-asItIs (pieces 24 n bs) (drop (24 * n) bs) (bytes-drop (24 * n) _ q refl))
+    (ap (λ (l : List ℕ). take (24 * n) bs ++ l) (each-asItIs (pieces 24 n bs) (drop (24 * n) bs) (sized-drop (24 * n) _ q refl))
     ∙ take-append-drop (24 * n) bs)

@@ -9,7 +9,7 @@ use lib.Dec.{eqb}
 use lib.ListN.{length}
 use Rattle.clefia_spec.specs.Words.{KeyLength, sixteen, twentyFour, thirtyTwo}
 use Rattle.planbook_spec.specs.Outcome.{Outcome, refused, Check, judged}
-use Rattle.planbook_spec.specs.OutcomeLaws.{AllPass, none, more, pass-head, pass-append, pass-check, judged-append, judged-pass, judged-true, judged-false}
+use Rattle.planbook_spec.specs.OutcomeLaws.{AllPass, none, more, pass-head, pass-append, pass-check, judged-append, judged-pass, judged-false}
 use Rattle.planbook_spec.specs.Checks.{keyCheck, wayCheck, blockCheck, outputCheck, keyAndWay}
 
 -- The three ways.
@@ -36,10 +36,6 @@ noneOfThree n a b c p q r = rw (ne-eqb n a p, ne-eqb n b q) (ne-eqb n c r)
 pub key-permitted : {n : ℕ} {cs : List Check} → AllPass (keyCheck n ∷ cs) → KeyLength n
 unfolding keyCheck
 key-permitted {n} p = oneOfThree KeyLength n 16 24 32 sixteen twentyFour thirtyTwo (pass-head p)
-
-pub way-permitted : {w : ℕ} {cs : List Check} → AllPass (wayCheck w ∷ cs) → Way w
-unfolding wayCheck
-way-permitted {w} p = oneOfThree Way w 1 2 3 one two three (pass-head p)
 
 pub key-passes : {n : ℕ} → KeyLength n → AllPass (keyCheck n ∷ [])
 unfolding keyCheck
@@ -78,29 +74,6 @@ module _ (cs : List Check) (o : Outcome) where
   pub key-accepted : {n : ℕ} → KeyLength n → judged (keyCheck n ∷ cs) o ≡ judged cs o
   key-accepted k = judged-append (keyCheck _ ∷ []) cs o ∙ judged-pass (key-passes k) (judged cs o)
 
-  pub way-accepted : {w : ℕ} → Way w → judged (wayCheck w ∷ cs) o ≡ judged cs o
-  way-accepted w = judged-append (wayCheck _ ∷ []) cs o ∙ judged-pass (way-passes w) (judged cs o)
-
-  pub block-accepted : (block : List ℕ) → length block ≡ 16 → judged (blockCheck block ∷ cs) o ≡ judged cs o
-  unfolding blockCheck
-  block-accepted block e = judged-true (eq-eqb (length block) 16 e) 3 cs o
-
-  pub output-accepted : (n : ℕ) (out : List ℕ) → length out ≡ n → judged (outputCheck n out ∷ cs) o ≡ judged cs o
-  unfolding outputCheck
-  output-accepted n out e = judged-true (eq-eqb (length out) n e) 4 cs o
-
   pub key-refused : (n : ℕ) → n ≢ 16 → n ≢ 24 → n ≢ 32 → judged (keyCheck n ∷ cs) o ≡ refused 1
   unfolding keyCheck
   key-refused n a b c = judged-false (noneOfThree n 16 24 32 a b c) 1 cs o
-
-  pub way-refused : (w : ℕ) → w ≢ 1 → w ≢ 2 → w ≢ 3 → judged (wayCheck w ∷ cs) o ≡ refused 2
-  unfolding wayCheck
-  way-refused w a b c = judged-false (noneOfThree w 1 2 3 a b c) 2 cs o
-
-  pub block-refused : (block : List ℕ) → length block ≢ 16 → judged (blockCheck block ∷ cs) o ≡ refused 3
-  unfolding blockCheck
-  block-refused block h = judged-false (ne-eqb (length block) 16 h) 3 cs o
-
-  pub output-refused : (n : ℕ) (out : List ℕ) → length out ≢ n → judged (outputCheck n out ∷ cs) o ≡ refused 4
-  unfolding outputCheck
-  output-refused n out h = judged-false (ne-eqb (length out) n h) 4 cs o

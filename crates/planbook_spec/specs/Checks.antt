@@ -51,13 +51,13 @@ expandKeyCall key way out =
     judged (keyAndWay key way ++ (outputCheck (4 * expandedCount (length key)) out ∷ []))
     (accepted (expandedCount (length key)) (bytesOf (expandKey key)))
 
--- The checks of a call that encrypts or decrypts one block: 1, 2, 3, 4.
-unfoldable pub blockChecks : List ℕ → ℕ → List ℕ → List ℕ → List Check
-blockChecks key way block out = keyAndWay key way ++ (blockCheck block ∷ outputCheck 16 out ∷ [])
+-- The checks of a call that encrypts or decrypts one block: some list cs about key and way, then 3, 4.
+unfoldable pub blockChecks : List Check → List ℕ → List ℕ → List Check
+blockChecks cs block out = cs ++ (blockCheck block ∷ outputCheck 16 out ∷ [])
 
 -- One block encrypted (document 01's term: sealed) and decrypted (opened): the count is 1.
 unfoldable pub encryptBlockCall : List ℕ → ℕ → List ℕ → List ℕ → Outcome
-encryptBlockCall key way block out = judged (blockChecks key way block out) (accepted 1 (encrypt key block))
+encryptBlockCall key way block out = judged (blockChecks (keyAndWay key way) block out) (accepted 1 (encrypt key block))
 
 unfoldable pub decryptBlockCall : List ℕ → ℕ → List ℕ → List ℕ → Outcome
-decryptBlockCall key way block out = judged (blockChecks key way block out) (accepted 1 (decrypt key block))
+decryptBlockCall key way block out = judged (blockChecks (keyAndWay key way) block out) (accepted 1 (decrypt key block))

@@ -9,13 +9,14 @@ use Rattle.clefia_spec.specs.Words.{fromDigits, bytesOf, KeyLength, Below}
 use Rattle.clefia_spec.specs.Constants.{constants}
 use Rattle.clefia_spec.specs.KeySchedule.{expandKey}
 use Rattle.clefia_spec.specs.Block.{encryptUnder, decryptUnder, encrypt, decrypt}
-use Rattle.clefia_spec.specs.BlockLaws.{Block, Undoes, decrypt-undoes-encrypt, encrypt-undoes-decrypt, decrypt-undoes-encrypt-under, encrypt-undoes-decrypt-under}
+use Rattle.clefia_spec.specs.BlockLaws.{decrypt-undoes-encrypt, encrypt-undoes-decrypt, decrypt-undoes-encrypt-under, encrypt-undoes-decrypt-under}
+use Rattle.clefia_spec.specs.RowLaws.{Bytes, Undone}
 use Rattle.planbook_spec.specs.Outcome.{accepted, after, judged}
 use Rattle.planbook_spec.specs.OutcomeLaws.{none, more, pass-tail, pass-append, judged-pass, Passed, passed, Accepted, accepted-is, Judges, judges}
 use Rattle.planbook_spec.specs.Checks.{keyCheck, outputCheck, keyAndWay, constantCount, expandedCount, constantsCall, expandKeyCall, blockChecks, encryptBlockCall, decryptBlockCall}
 use Rattle.planbook_spec.specs.CheckLaws.{Way, key-permitted, block-size, block-passes, output-passes, keyAndWay-passes}
-use Rattle.planbook_spec.specs.Book.{number, pieces, entriesHold, contents, recordCount, formChecks, eachBody, sheetsHold, recordsCheck, asItIs, decryptBody, recoded, bookChecks, encryptBookBy, decryptBookBy, sealedBook, openedBook, encryptBookCall, decryptBookCall}
-use Rattle.planbook_spec.specs.Undoing.{Bytes, Undone, BlockCipher}
+use Rattle.planbook_spec.specs.Book.{number, pieces, entriesHold, contents, recordCount, formChecks, eachBody, sheetsHold, recordsCheck, asItIs, decryptBody, recoded, bookChecks, encryptBookBy, decryptBookBy, encryptedBook, decryptedBook, encryptBookCall, decryptBookCall}
+use Rattle.planbook_spec.specs.Undoing.{BlockCipher}
 use Rattle.planbook_spec.specs.BookCipher.{encrypted-decrypts, decrypted-encrypts, encrypted-is, encrypted-alike}
 
 -- ---- demand 1: each call is refused under c exactly where c is the first of its checks that fails, and else it is accepted, with the count and the
@@ -31,109 +32,98 @@ pub demand1-expandKey : (key : List ℕ) (way : ℕ) (out : List ℕ)
 unfolding expandKeyCall
 demand1-expandKey key way out = judges _ _ _
 
-pub demand1-encryptBlock : (key : List ℕ) (way : ℕ) (block out : List ℕ) → Judges (blockChecks key way block out) 1 (encrypt key block) (encryptBlockCall key way block out)
+pub demand1-encryptBlock : (key : List ℕ) (way : ℕ) (block out : List ℕ) → Judges (blockChecks (keyAndWay key way) block out) 1 (encrypt key block) (encryptBlockCall key way block out)
 unfolding encryptBlockCall
 demand1-encryptBlock key way block out = judges _ _ _
 
-pub demand1-decryptBlock : (key : List ℕ) (way : ℕ) (block out : List ℕ) → Judges (blockChecks key way block out) 1 (decrypt key block) (decryptBlockCall key way block out)
+pub demand1-decryptBlock : (key : List ℕ) (way : ℕ) (block out : List ℕ) → Judges (blockChecks (keyAndWay key way) block out) 1 (decrypt key block) (decryptBlockCall key way block out)
 unfolding decryptBlockCall
 demand1-decryptBlock key way block out = judges _ _ _
 
 pub demand1-encryptBook : (key : List ℕ) (way : ℕ) (book out : List ℕ)
-    → Judges (bookChecks (keyAndWay key way) 1 asItIs book out) (recordCount (contents book)) (sealedBook key book) (encryptBookCall key way book out)
-unfolding encryptBookCall encryptBookBy sealedBook
+    → Judges (bookChecks (keyAndWay key way) 1 asItIs book out) (recordCount (contents book)) (encryptedBook key book) (encryptBookCall key way book out)
+unfolding encryptBookCall encryptBookBy encryptedBook
 demand1-encryptBook key way book out = judges _ _ _
 
 pub demand1-decryptBook : (key : List ℕ) (way : ℕ) (book out : List ℕ)
-    → Judges (bookChecks (keyAndWay key way) 2 (decryptBody (decrypt key)) book out) (recordCount (contents book)) (openedBook key book) (decryptBookCall key way book out)
-unfolding decryptBookCall decryptBookBy openedBook
+    → Judges (bookChecks (keyAndWay key way) 2 (decryptBody (decrypt key)) book out) (recordCount (contents book)) (decryptedBook key book) (decryptBookCall key way book out)
+unfolding decryptBookCall decryptBookBy decryptedBook
 demand1-decryptBook key way book out = judges _ _ _
 
 -- ---- the cipher: CLEFIA under any words, and under a key
 
-undone : {f g : List ℕ → List ℕ} → Undoes g f → Undone (Bytes 16) f g
-undone u =
-    record {
-      keeps = λ x b. let y : Block _ = u .block x (record { long = b .size; below = b .below }) in record { size = y .long; below = y .below };
-      back = λ x b. u .undone x (record { long = b .size; below = b .below });
-    }
-
 pub cipherUnder : {w : List ℕ} → Below (2 ^ 32) w → BlockCipher (encryptUnder w) (decryptUnder w)
-cipherUnder h = record { encrypted = undone (decrypt-undoes-encrypt-under h); decrypted = undone (encrypt-undoes-decrypt-under h) }
+cipherUnder h = record { encrypted = decrypt-undoes-encrypt-under h; decrypted = encrypt-undoes-decrypt-under h }
 
 pub cipher : {key : List ℕ} → KeyLength (length key) → Below 256 key → BlockCipher (encrypt key) (decrypt key)
-cipher k h = record { encrypted = undone (decrypt-undoes-encrypt k h); decrypted = undone (encrypt-undoes-decrypt k h) }
+cipher k h = record { encrypted = decrypt-undoes-encrypt k h; decrypted = encrypt-undoes-decrypt k h }
 
 -- A key with which a call was accepted has a permitted length.
-pub sealing-key : (key : List ℕ) (way : ℕ) (book out : List ℕ) {n : ℕ} {bs : List ℕ} → encryptBookCall key way book out ≡ accepted n bs → KeyLength (length key)
+pub encryptBook-key : (key : List ℕ) (way : ℕ) (book out : List ℕ) {n : ℕ} {bs : List ℕ} → encryptBookCall key way book out ≡ accepted n bs → KeyLength (length key)
 unfolding encryptBookCall encryptBookBy bookChecks
-sealing-key key way book out a = key-permitted (passed _ _ _ a .checks)
+encryptBook-key key way book out a = key-permitted (passed _ _ _ a .checks)
 
-pub opening-key : (key : List ℕ) (way : ℕ) (book out : List ℕ) {n : ℕ} {bs : List ℕ} → decryptBookCall key way book out ≡ accepted n bs → KeyLength (length key)
+pub decryptBook-key : (key : List ℕ) (way : ℕ) (book out : List ℕ) {n : ℕ} {bs : List ℕ} → decryptBookCall key way book out ≡ accepted n bs → KeyLength (length key)
 unfolding decryptBookCall decryptBookBy bookChecks
-opening-key key way book out a = key-permitted (passed _ _ _ a .checks)
+decryptBook-key key way book out a = key-permitted (passed _ _ _ a .checks)
 
 -- ---- demand 2: under one key, what one call has made the other takes back, by any of the ways each time. (That blocks, keys and chains are those of
 -- CLEFIA and of CBC is in the definitions that the outcomes name.)
 
 module _ (key : List ℕ) (bytes : Below 256 key) (way way′ : ℕ) (permitted : Way way′) where
   -- A sealed book opens to the clear book.
-  pub demand2-opens : (book out out′ : List ℕ) {n : ℕ} {sealed : List ℕ} → Below 256 book → encryptBookCall key way book out ≡ accepted n sealed
-      → length out′ ≡ length book → decryptBookCall key way′ sealed out′ ≡ accepted n book
+  pub demand2-decrypts : (book out out′ : List ℕ) {n : ℕ} {encrypted : List ℕ} → Below 256 book → encryptBookCall key way book out ≡ accepted n encrypted
+      → length out′ ≡ length book → decryptBookCall key way′ encrypted out′ ≡ accepted n book
   unfolding encryptBookCall decryptBookCall
-  demand2-opens book out out′ r a e =
-      let k : KeyLength (length key) = sealing-key key way book out a in
+  demand2-decrypts book out out′ r a e =
+      let k : KeyLength (length key) = encryptBook-key key way book out a in
       encrypted-decrypts (encrypt key) (decrypt key) (cipher k bytes) (keyAndWay key way) (keyAndWay key way′) book out out′ r a (keyAndWay-passes key k permitted) e
 
   -- An opened book seals to the same sealed bytes.
-  pub demand2-seals : (book out out′ : List ℕ) {n : ℕ} {opened : List ℕ} → Below 256 book → decryptBookCall key way book out ≡ accepted n opened
-      → length out′ ≡ length book → encryptBookCall key way′ opened out′ ≡ accepted n book
+  pub demand2-encrypts : (book out out′ : List ℕ) {n : ℕ} {decrypted : List ℕ} → Below 256 book → decryptBookCall key way book out ≡ accepted n decrypted
+      → length out′ ≡ length book → encryptBookCall key way′ decrypted out′ ≡ accepted n book
   unfolding encryptBookCall decryptBookCall
-  demand2-seals book out out′ r a e =
-      let k : KeyLength (length key) = opening-key key way book out a in
+  demand2-encrypts book out out′ r a e =
+      let k : KeyLength (length key) = decryptBook-key key way book out a in
       decrypted-encrypts (encrypt key) (decrypt key) (cipher k bytes) (keyAndWay key way) (keyAndWay key way′) book out out′ r a (keyAndWay-passes key k permitted) e
 
--- So with single blocks: the one call, by F, gives what the other, by G, takes back.
-block-comes-back : {F G : List ℕ → List ℕ} → Undone (Bytes 16) F G → (key : List ℕ) {way : ℕ} → KeyLength (length key) → Way way
-    → (block out : List ℕ) → Bytes 16 block → length out ≡ 16
-    → judged (blockChecks key way (F block) out) (accepted 1 (G (F block))) ≡ accepted 1 block
-unfolding blockChecks
-block-comes-back {F} u key k w block out b e =
-    judged-pass (pass-append (keyAndWay-passes key k w) (pass-append (block-passes (F block) (u .keeps block b .size)) (output-passes 16 out e))) _
-    ∙ ap (accepted 1) (u .back block b)
-
+-- So with single blocks: what one call has made, by F, the other one, by G, takes back.
 module _ (key : List ℕ) (bytes : Below 256 key) (way way′ : ℕ) (permitted : Way way′) (block out out′ : List ℕ) {n : ℕ} {bs : List ℕ} (below : Below 256 block) (room : length out′ ≡ 16) where
-  pub demand2-block-opens : encryptBlockCall key way block out ≡ accepted n bs → decryptBlockCall key way′ bs out′ ≡ accepted n block
-  unfolding encryptBlockCall decryptBlockCall blockChecks
-  demand2-block-opens a =
-      let p : Passed (blockChecks key way block out) 1 n _ bs = passed _ _ _ a in
+  block-comes-back : {F G : List ℕ → List ℕ} → (KeyLength (length key) → Undone (Bytes 16) F G)
+      → judged (blockChecks (keyAndWay key way) block out) (accepted 1 (F block)) ≡ accepted n bs
+      → judged (blockChecks (keyAndWay key way′) bs out′) (accepted 1 (G bs)) ≡ accepted n block
+  unfolding blockChecks
+  block-comes-back {F} u a =
+      let p : Passed (blockChecks (keyAndWay key way) block out) 1 n _ bs = passed _ _ _ a in
       let k : KeyLength (length key) = key-permitted (p .checks) in
       let b : Bytes 16 block = record { size = block-size block (pass-tail (pass-tail (p .checks))); below = below } in
-      rw (← p .sameBytes, ← p .sameCount) (block-comes-back (cipher k bytes .encrypted) key k permitted block out′ b room)
+      rw (← p .sameBytes, ← p .sameCount)
+      (judged-pass (pass-append (keyAndWay-passes key k permitted) (pass-append (block-passes (F block) (u k .keeps block b .size)) (output-passes 16 out′ room))) _
+      ∙ ap (accepted 1) (u k .back block b))
 
-  pub demand2-block-seals : decryptBlockCall key way block out ≡ accepted n bs → encryptBlockCall key way′ bs out′ ≡ accepted n block
-  unfolding encryptBlockCall decryptBlockCall blockChecks
-  demand2-block-seals a =
-      let p : Passed (blockChecks key way block out) 1 n _ bs = passed _ _ _ a in
-      let k : KeyLength (length key) = key-permitted (p .checks) in
-      let b : Bytes 16 block = record { size = block-size block (pass-tail (pass-tail (p .checks))); below = below } in
-      rw (← p .sameBytes, ← p .sameCount) (block-comes-back (cipher k bytes .decrypted) key k permitted block out′ b room)
+  pub demand2-block-decrypts : encryptBlockCall key way block out ≡ accepted n bs → decryptBlockCall key way′ bs out′ ≡ accepted n block
+  unfolding encryptBlockCall decryptBlockCall
+  demand2-block-decrypts = block-comes-back (λ k. cipher k bytes .encrypted)
+
+  pub demand2-block-encrypts : decryptBlockCall key way block out ≡ accepted n bs → encryptBlockCall key way′ bs out′ ≡ accepted n block
+  unfolding encryptBlockCall decryptBlockCall
+  demand2-block-encrypts = block-comes-back (λ k. cipher k bytes .decrypted)
 
 -- ---- demand 3: of two clear books a and b that sealing accepts under one key, each by whichever way. A sealed book is the whole lent output afterwards.
 
-pub record SealedAlike (key a b x y : List ℕ) : Type 0 where
+pub record EncryptedAlike (key a b x y : List ℕ) : Type 0 where
   pub alike : (x ≡ y) ↔ (a ≡ b)
-  pub first : x ≡ sealedBook key a
-  pub second : y ≡ sealedBook key b
+  pub first : x ≡ encryptedBook key a
+  pub second : y ≡ encryptedBook key b
 
 pub demand3 : (key : List ℕ) → Below 256 key → (way way′ : ℕ) (a b out out′ : List ℕ) → Below 256 a → Below 256 b
     → Accepted (encryptBookCall key way a out) → Accepted (encryptBookCall key way′ b out′)
-    → SealedAlike key a b (after out (encryptBookCall key way a out)) (after out′ (encryptBookCall key way′ b out′))
-unfolding encryptBookCall sealedBook
+    → EncryptedAlike key a b (after out (encryptBookCall key way a out)) (after out′ (encryptBookCall key way′ b out′))
+unfolding encryptBookCall encryptedBook
 demand3 key bytes way way′ a b out out′ ra rb pa pb =
     let ea : encryptBookCall key way a out ≡ accepted _ (after out (encryptBookCall key way a out)) = accepted-is pa out in
     let eb : encryptBookCall key way′ b out′ ≡ accepted _ (after out′ (encryptBookCall key way′ b out′)) = accepted-is pb out′ in
-    let c : BlockCipher (encrypt key) (decrypt key) = cipher (sealing-key key way a out ea) bytes in
+    let c : BlockCipher (encrypt key) (decrypt key) = cipher (encryptBook-key key way a out ea) bytes in
     record {
       alike = encrypted-alike (encrypt key) (decrypt key) c (keyAndWay key way) (keyAndWay key way′) a b out out′ ra rb ea eb;
       first = encrypted-is (encrypt key) (decrypt key) c (keyAndWay key way) a out ea;

@@ -10,4 +10,5 @@ pub mod BookLaws
 pub mod BookCipher
 pub mod Demands
 pub mod OutputLengths
+pub mod Received
 pub mod WalkLaws

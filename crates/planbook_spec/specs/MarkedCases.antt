@@ -15,8 +15,8 @@ use Rattle.planbook_spec.specs.Checks.{keyCheck, wayCheck, outputCheck}
 use Rattle.planbook_spec.specs.Book.{number, pieces, entriesHold, recordCount, formChecks, eachBody, sheetsHold, recordsCheck, recoded, bookChecks, encryptBookBy, encryptBookCall}
 
 -- The empty book, sealed by way 1 under a key of 16 zero bytes.
-abbrev pub emptySealed : Outcome
-emptySealed = encryptBookCall (replicate 16 0) 1 (0x01 ∷ 0x00 ∷ 0x00 ∷ 0x00 ∷ []) (replicate 4 0)
+abbrev pub emptyEncrypted : Outcome
+emptyEncrypted = encryptBookCall (replicate 16 0) 1 (0x01 ∷ 0x00 ∷ 0x00 ∷ 0x00 ∷ []) (replicate 4 0)
 
 pub markedCases : List Case
 markedCases =
@@ -34,7 +34,7 @@ markedCases =
     ∷ (doubleSwap (0x80000000 ∷ 0 ∷ 0 ∷ 0 ∷ []) gives 0 ∷ 0 ∷ 0x80000000 ∷ 0 ∷ [])
     ∷ (doubleSwap (0 ∷ 0 ∷ 0 ∷ 1 ∷ []) gives 0 ∷ 1 ∷ 0 ∷ 0 ∷ [])
     -- the empty book: the number that C receives, which is check 0 and count 0, and then the bytes
-    ∷ (answer emptySealed ∷ after (replicate 4 0) emptySealed gives 0 ∷ 2 ∷ 0 ∷ 0 ∷ 0 ∷ [])
+    ∷ (answer emptyEncrypted ∷ after (replicate 4 0) emptyEncrypted gives 0 ∷ 2 ∷ 0 ∷ 0 ∷ 0 ∷ [])
     ∷ []
 
 pub markedCases-hold : AllHold markedCases

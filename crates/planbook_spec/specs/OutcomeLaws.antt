@@ -4,9 +4,9 @@ use Prim.Native.Nat.{ℕ, _*_, _^_}
 use mathlib.Core.Bool.{Bool, true, false}
 use mathlib.Core.List.{List, [], _∷_, _++_}
 use mathlib.Core.Logic.{_↔_, _⊎_, inl, inr, ⊎-map}
-use mathlib.Core.Path.{_≡_, refl, sym, ap, subst}
+use mathlib.Core.Path.{_≡_, refl, sym, ap, subst, _∙_}
 use native.Mathlib.Omega.{arith}
-use Rattle.planbook_spec.specs.Outcome.{Outcome, refused, accepted, answer, after, Check, check, judged}
+use Rattle.planbook_spec.specs.Outcome.{Outcome, refused, accepted, answer, after, Answers, Check, check, judged}
 
 -- c is the number of the first check that fails.
 pub data FirstFailure : List Check → ℕ → Type 0 where
@@ -99,6 +99,10 @@ pass-append (more p) q = more (pass-append p q)
 
 pub pass-check : {c : ℕ} {b : Bool} → b ≡ true → AllPass (check c b ∷ [])
 pass-check {c} {b} e = subst (λ (t : Bool). AllPass (check c t ∷ [])) (sym e) (more none)
+
+-- A call's contract pins its number and its output: two answers to one outcome, with one lent output, are equal in both.
+pub answers-equal : {o : Outcome} {out : List ℕ} {r r′ : ℕ} {exit exit′ : List ℕ} → Answers o out r exit → Answers o out r′ exit′ → (r ≡ r′) × (exit ≡ exit′)
+answers-equal a b = (a .number ∙ sym (b .number), a .output ∙ sym (b .output))
 
 -- An accepted outcome: its answer is the count, and the output afterwards is its bytes.
 pub data Accepted : Outcome → Type 0 where

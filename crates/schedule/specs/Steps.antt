@@ -1,29 +1,28 @@
 -- The steps of the key schedule: one and the rest, as the loop that fills a row with round keys cites them.
-use Prim.Native.Nat.{ℕ, suc, _+_, _-_, _*_, _/_, _%_, _≤_, _<_}
+use Prim.Native.Nat.{ℕ, suc, _+_, _-_, _*_, _%_, _≤_, _<_}
 use mathlib.Core.Bool.{Bool, true, false}
-use mathlib.Core.Path.{_≡_, _∙_}
+use mathlib.Core.Path.{_≡_, refl, sym, _∙_}
 use mathlib.Core.List.{List, [], _++_}
 use native.Mathlib.Omega.{arith}
 use lib.Dec.{eqb, ltb}
 use lib.ListN.{length, take}
-use borrow.Author.Tests.{lt-ltb, le-ltb}
+use borrow.Author.Tests.{lt-ltb}
 use Rattle.clefia_spec.specs.Words.{fourAt, xors, choose}
 use Rattle.clefia_spec.specs.DigitLaws.{length-xors}
 use Rattle.clefia_spec.specs.KeySchedule.{doubleSwap, stepKeys, roundKeys}
 use Rattle.rows.specs.Rows.{putFour, fill-four}
 
--- Of every four steps the first 4 or the first 2 use the first row. In the specification that is a period of 2 or of 4.
-pub data Own : ℕ → Type 0 where
-  all : Own 4
-  half : Own 2
+-- The two periods: every step uses the first row, or two of every four do.
+pub data Period : ℕ → Type 0 where
+  always : Period 2
+  turns : Period 4
 
-own-step : {own : ℕ} → Own own → (i : ℕ) → i % 4 < own → ltb (i % (8 / own)) 2 ≡ true
-own-step all i h = lt-ltb (i % 2) 2 (omega arith)
-own-step half i h = lt-ltb (i % 4) 2 (omega arith)
+pub always-first : (i : ℕ) {period : ℕ} → period ≡ 2 → true ≡ ltb (i % period) 2
+always-first i e = rw e (sym (lt-ltb (i % 2) 2 (omega arith)))
 
-other-step : {own : ℕ} → Own own → (i : ℕ) → own ≤ i % 4 → ltb (i % (8 / own)) 2 ≡ false
-other-step all i h = le-ltb (i % 2) 2 (omega arith)
-other-step half i h = le-ltb (i % 4) 2 (omega arith)
+pub first-by-turns : (i : ℕ) {period : ℕ} → Period period → (period ≡ 2 → ⊥) → ltb (i % 4) 2 ≡ ltb (i % period) 2
+first-by-turns i always h = absurd (h refl)
+first-by-turns i turns h = refl
 
 -- The round keys of the steps that are left, at least one: those of step i, and the rest.
 module _ (period base : ℕ) (con : List ℕ) (i : ℕ) (k k′ l l′ : List ℕ) where
@@ -47,13 +46,13 @@ length-stepKeys i con k l = either (eqb (i % 2) 1)
     either false = length-xors con l
 
 -- A turn of the loop: s is filled up to step i, with the steps that are left it makes the whole, and so it does after step i.
-module _ {own : ℕ} (o : Own own) (base : ℕ) (con : List ℕ) (n i : ℕ) (k k′ l l′ s whole : List ℕ)
+module _ (period base : ℕ) (con : List ℕ) (n i : ℕ) (k k′ l l′ s whole : List ℕ)
     (h : i < n)
     (e : length s ≡ 4 + 4 * n)
-    (w : take (4 + 4 * i) s ++ roundKeys (8 / own) base con (n - i) i k k′ l l′ ≡ whole) where
-  fill : (t : Bool) → length (choose t l l′) ≡ 4 → ltb (i % (8 / own)) 2 ≡ t →
+    (w : take (4 + 4 * i) s ++ roundKeys period base con (n - i) i k k′ l l′ ≡ whole) where
+  pub fill : (t : Bool) → length (choose t l l′) ≡ 4 → ltb (i % period) 2 ≡ t →
       take (4 + 4 * (i + 1)) (putFour s (4 + 4 * i) (stepKeys i (fourAt con (base + 4 * i)) (choose t k k′) (choose t l l′)))
-      ++ roundKeys (8 / own) base con (n - (i + 1)) (i + 1) k k′ (choose t (doubleSwap l) l) (choose t l′ (doubleSwap l′))
+      ++ roundKeys period base con (n - (i + 1)) (i + 1) k k′ (choose t (doubleSwap l) l) (choose t l′ (doubleSwap l′))
       ≡ whole
   unfolding chosen
   fill t q b =
@@ -62,17 +61,7 @@ module _ {own : ℕ} (o : Own own) (base : ℕ) (con : List ℕ) (n i : ℕ) (k 
       (fill-four s (4 + 4 * i) _ _ whole
       (length-stepKeys i (fourAt con (base + 4 * i)) (choose t k k′) (choose t l l′) ∙ q)
       (omega arith)
-      (rw (left (8 / own) base con i k k′ l l′ n t h b) at w))
-
-  pub fill-own : i % 4 < own → length l ≡ 4 →
-      take (4 + 4 * (i + 1)) (putFour s (4 + 4 * i) (stepKeys i (fourAt con (base + 4 * i)) k l))
-      ++ roundKeys (8 / own) base con (n - (i + 1)) (i + 1) k k′ (doubleSwap l) l′ ≡ whole
-  fill-own b q = fill true q (own-step o i b)
-
-  pub fill-other : own ≤ i % 4 → length l′ ≡ 4 →
-      take (4 + 4 * (i + 1)) (putFour s (4 + 4 * i) (stepKeys i (fourAt con (base + 4 * i)) k′ l′))
-      ++ roundKeys (8 / own) base con (n - (i + 1)) (i + 1) k k′ l (doubleSwap l′) ≡ whole
-  fill-other b q = fill false q (other-step o i b)
+      (rw (left period base con i k k′ l l′ n t h b) at w))
 
 -- No steps are left.
 pub none-left : (period base : ℕ) (con : List ℕ) (n i : ℕ) (k k′ l l′ : List ℕ) → n ≤ i → roundKeys period base con (n - i) i k k′ l l′ ≡ []

@@ -2,13 +2,14 @@
 pub mod constants;
 
 ghost use mathlib.Core.Path.{_≡_};
-ghost use mathlib.Core.List.{_++_};
-ghost use Prim.Native.Nat.{_+_, _*_, _/_, _≤_};
-ghost use lib.ListN.{length, take};
+ghost use mathlib.Core.List.{[], _∷_, _++_};
+ghost use Prim.Native.Nat.{_+_, _*_, _%_, _≤_};
+ghost use lib.ListN.{length, getD, take};
 ghost use Rattle.clefia_spec.specs.Words.{fourAt, wordsOf, byKeyLength, KeyLength};
 ghost use Rattle.clefia_spec.specs.KeySchedule.{doubleSwap, stepKeys, roundKeys, expandShort, expandLong, extendKey, expandKey};
 ghost use Rattle.rows.specs.Rows.{putFour};
-ghost use Rattle.schedule.specs.Steps.{Own};
+ghost use Rattle.schedule.specs.Steps.{Period};
+ghost use lib.Dec.{ltb};
 ghost use Rattle.ffunction.specs.Tables.{Lent};
 use network8::first_half;
 use network8::joined;
@@ -28,7 +29,7 @@ fn double_swap(x: [u32; 4]) -> [u32; 4]
 
 fn four_at(w: &[u32], at: usize) -> [u32; 4]
     requires { ⌜ at + 4 ≤ length (now w) ⌝ }
-    ensures { λ r. ⌜ r ≡ fourAt (now (w .entry)) at ⌝ }
+    ensures { λ r. ⌜ r ≡ (getD (now (w .entry)) at 0 ∷ getD (now (w .entry)) (at + 1) 0 ∷ getD (now (w .entry)) (at + 2) 0 ∷ getD (now (w .entry)) (at + 3) 0 ∷ []) ⌝ }
 {
     [w[at], w[at + 1], w[at + 2], w[at + 3]]
 }
@@ -55,9 +56,20 @@ fn step(i: usize, base: usize, con: &[u32], k: [u32; 4], l: [u32; 4], w: &mut [u
     double_swap(l)
 }
 
-// The round keys of n steps, written behind the first four words. Of every four steps the first `own` use k and l, the others k2 and l2.
+// Whether step i uses the first of two rows that take turns; with a period of 2 every step does. (A division by the period would cost more.)
+fn uses_first_row(i: usize, period: usize) -> bool
+    requires { ⌜ Period period ⌝ }
+    ensures { λ r. ⌜ r ≡ ltb (i % period) 2 ⌝ }
+{
+    if period == 2 {
+        return true;
+    }
+    i % 4 < 2
+}
+
+// The round keys of n steps, written behind the first four words. A step that uses the first row goes by k and l, any other by k2 and l2.
 fn round_keys(
-    own: usize,
+    period: usize,
     base: usize,
     con: &[u32],
     n: usize,
@@ -67,16 +79,16 @@ fn round_keys(
     l2: [u32; 4],
     w: &mut [u32],
 )
-    requires { ⌜ Own own ⌝ }
+    requires { ⌜ Period period ⌝ }
     requires { ⌜ base + 4 * n ≤ length (now con) ⌝ }
     requires { ⌜ length (now w) ≡ 4 + 4 * n ⌝ }
-    ensures { λ r. ⌜ now (w .exit) ≡ take 4 (now (w .entry)) ++ roundKeys (8 / own) base (now (con .entry)) n 0 k k2 l l2 ⌝ }
+    ensures { λ r. ⌜ now (w .exit) ≡ take 4 (now (w .entry)) ++ roundKeys period base (now (con .entry)) n 0 k k2 l l2 ⌝ }
 {
     let mut a = l;
     let mut b = l2;
     let mut i = 0;
     while i < n {
-        if i % 4 < own {
+        if uses_first_row(i, period) {
             let next = step(i, base, con, k, a, w);
             a = next;
             i += 1;
@@ -97,7 +109,7 @@ fn expand_short(words: &[[u32; 256]], bytes: &[[u8; 256]], k: [u32; 4], w: &mut 
     let con = constants::sixteen();
     let l = network::network4(words, bytes, &con, 12, 0, k);
     rows::put_four(w, 0, k);
-    round_keys(4, 24, &con, 9, k, k, l, l, w);
+    round_keys(2, 24, &con, 9, k, k, l, l, w);
 }
 
 // KL and KR of a longer key, its constants and its number of steps.
@@ -117,7 +129,7 @@ fn expand_long(
 {
     let l = network8::network8(words, bytes, con, 10, 0, joined(kl, kr));
     rows::put_four(w, 0, rows::xors4(kl, kr));
-    round_keys(2, 40, con, n, kr, kl, first_half(l), second_half(l), w);
+    round_keys(4, 40, con, n, kr, kl, first_half(l), second_half(l), w);
 }
 
 // KR of a key of 24 bytes: its last two words, and its first two inverted.

@@ -2,19 +2,20 @@
 use Prim.Native.Nat.{ℕ, zero, suc, _+_, _-_, _*_, _^_, _≤_, _<_}
 use mathlib.Core.Path.{_≡_, sym, ap, ap₂, _∙_}
 use mathlib.Core.Bool.{Bool, true, false, _&&_}
-use mathlib.Core.List.{List, [], _∷_, _++_, append-assoc, append-nil}
+use mathlib.Core.List.{List, _∷_, _++_, append-assoc}
 use native.Mathlib.Omega.{arith}
 use borrow.Rule.Slice.PartMut.{putMid, same-len-mid, mid-len}
 use lib.Dec.{lit<}
 use lib.ListN.{length, take, drop, length-append, length-drop}
-use lib.Seq.{length-take-le, take-all, take-at, drop-at}
+use lib.Seq.{length-take-le, take-at, drop-at}
 use Rattle.clefia_spec.specs.Words.{bytesOf, wordsOf, xors, choose, Below}
-use Rattle.clefia_spec.specs.DigitLaws.{below-take, below-drop, below-xors, length-xors, length-numbersOf, length-digitsOf, below-numbersOf, below-digitsOf, numbersOf-xors, digitsOf-xors}
-use Rattle.clefia_spec.specs.KeyLaws.{Row}
+use Rattle.clefia_spec.specs.DigitLaws.{below-take, below-drop, length-digitsOf, below-digitsOf, numbersOf-xors, digitsOf-xors}
+use Rattle.clefia_spec.specs.RowLaws.{Row, sized-xors}
 use Rattle.clefia_spec.specs.Block.{encryptWords, decryptWords, encryptUnder, decryptUnder}
-use Rattle.clefia_spec.specs.BlockLaws.{block-words, row-encryptWords, row-decryptWords}
+use Rattle.clefia_spec.specs.BlockLaws.{block-words, row-block, row-encryptWords, row-decryptWords}
 use Rattle.planbook_spec.specs.Book.{count, iv, pieces, recordHolds, allRecordsHold, sheetHolds, cbcEncrypt, cbcDecrypt, encryptBody, decryptBody}
-use Rattle.planbook_spec.specs.WalkLaws.{encrypt-next, decrypt-next, encrypt-done, decrypt-done}
+use Rattle.planbook_spec.specs.WalkLaws.{encrypt-next, decrypt-next}
+use Rattle.rows.specs.Rows.{fill-end}
 use Rattle.form.specs.Blocks.{block-at, words-at}
 use Rattle.sheet.specs.declared.chain.Chain.{Chain}
 use Rattle.sheet.specs.declared.chain.Step.{Step}
@@ -22,14 +23,8 @@ use Rattle.sheet.specs.Chain.{encryptStep, decryptStep}
 
 -- ---- rows of four words and their bytes
 
-pub row-at : (bs : List ℕ) → Below 256 bs → Row 4 (wordsOf 4 bs)
-row-at bs r = record { long = length-numbersOf 256 4 4 bs; below = below-numbersOf (lit< tt) 4 4 r }
-
 pub length-bytes : {s : List ℕ} → Row 4 s → length (bytesOf s) ≡ 16
-length-bytes {s} h = length-digitsOf 256 4 s ∙ ap (λ (n : ℕ). n * 4) (h .long)
-
-row-xors : {p q : List ℕ} → Row 4 p → Row 4 q → Row 4 (xors p q)
-row-xors {p} {q} h k = record { long = length-xors p q ∙ k .long; below = below-xors 32 (h .below) (k .below) }
+length-bytes {s} h = length-digitsOf 256 4 s ∙ ap (λ (n : ℕ). n * 4) (h .size)
 
 -- ---- one step, under words w; p went before, and bs begins with the block
 
@@ -38,7 +33,7 @@ module _ {w p bs : List ℕ} (words : Below (2 ^ 32) w) (before : Row 4 p) (byte
   size = length-take-le 16 bs long
 
   pub row-encrypted : Row 4 (encryptWords w (xors p (wordsOf 4 bs)))
-  row-encrypted = row-encryptWords words (row-xors before (row-at bs bytes))
+  row-encrypted = row-encryptWords words (sized-xors 32 before (row-block bytes))
 
   pub encrypt-step : encryptUnder w (xors (bytesOf p) (take 16 bs)) ≡ bytesOf (encryptWords w (xors p (wordsOf 4 bs)))
   unfolding encryptUnder
@@ -48,13 +43,13 @@ module _ {w p bs : List ℕ} (words : Below (2 ^ 32) w) (before : Row 4 p) (byte
       ∙ ap₂ xors (block-words before) (words-at bs long))
 
   pub row-decrypted : Row 4 (xors p (decryptWords w (wordsOf 4 bs)))
-  row-decrypted = row-xors before (row-decryptWords words (row-at bs bytes))
+  row-decrypted = sized-xors 32 before (row-decryptWords words (row-block bytes))
 
   pub decrypt-step : xors (bytesOf p) (decryptUnder w (take 16 bs)) ≡ bytesOf (xors p (decryptWords w (wordsOf 4 bs)))
   unfolding decryptUnder
   decrypt-step =
       ap (λ (s : List ℕ). xors (bytesOf p) (bytesOf (decryptWords w s))) (words-at bs long)
-      ∙ sym (digitsOf-xors 8 4 p (decryptWords w (wordsOf 4 bs)) (before .long ∙ sym (row-decryptWords words (row-at bs bytes) .long)))
+      ∙ sym (digitsOf-xors 8 4 p (decryptWords w (wordsOf 4 bs)) (before .size ∙ sym (row-decryptWords words (row-block bytes) .size)))
 
 -- ---- stretches of an output, filled one after the other
 
@@ -71,51 +66,47 @@ pub length-part : (at n : ℕ) (out part : List ℕ) → length part ≡ n → a
 length-part at n out part l h =
     same-len-mid at (at + n - at) out part (l ∙ sym (mid-len at (at + n) out h ∙ omega arith))
 
--- All has been filled.
-pub filled : (at : ℕ) (out : List ℕ) {whole : List ℕ} → length out ≤ at → take at out ++ [] ≡ whole → out ≡ whole
-filled at out h e = sym (take-all at out h) ∙ sym (append-nil (take at out)) ∙ e
-
--- ---- the body of a sheet of a book that is clear or not, block by block: `left` blocks are to come, the first of them at `at`
+-- ---- the body of a sheet in either direction, block by block: `left` blocks are to come, the first of them at `at`
 
 abbrev chaining : Bool → List ℕ → ℕ → List ℕ → List ℕ → List ℕ
-chaining clear w = choose clear (cbcEncrypt (encryptUnder w)) (cbcDecrypt (decryptUnder w))
+chaining decrypting w = choose decrypting (cbcDecrypt (decryptUnder w)) (cbcEncrypt (encryptUnder w))
 
-pub record Chained (clear : Bool) (w entry body out : List ℕ) (at left : ℕ) (p : List ℕ) : Type 0 where
+pub record Chained (decrypting : Bool) (w entry body out : List ℕ) (at left : ℕ) (p : List ℕ) : Type 0 where
   pub place : at + 16 * left ≡ 16 * count entry
   pub row : Row 4 p
-  pub long : length out ≡ 16 * count entry
-  pub whole : take at out ++ chaining clear w left (bytesOf p) (drop at body) ≡ chaining clear w (count entry) (iv entry) body
+  pub size : length out ≡ 16 * count entry
+  pub whole : take at out ++ chaining decrypting w left (bytesOf p) (drop at body) ≡ chaining decrypting w (count entry) (iv entry) body
 
-pub chain-start : (clear : Bool) (w body : List ℕ) {entry out : List ℕ} → Below 256 entry → length entry ≡ 24 → length out ≡ 16 * count entry
-    → Chained clear w entry body out 0 (count entry) (wordsOf 4 (drop 8 entry))
-chain-start clear w body {entry} b l m =
+pub chain-start : (decrypting : Bool) (w body : List ℕ) {entry out : List ℕ} → Below 256 entry → length entry ≡ 24 → length out ≡ 16 * count entry
+    → Chained decrypting w entry body out 0 (count entry) (wordsOf 4 (drop 8 entry))
+chain-start decrypting w body {entry} b l m =
     let k : 16 ≤ length (drop 8 entry) = rw length-drop (omega arith) in
     record {
       place = omega arith;
-      row = row-at (drop 8 entry) (below-drop 8 b);
-      long = m;
-      whole = ap (λ (x : List ℕ). chaining clear w (count entry) x body) (block-at (drop 8 entry) (below-drop 8 b) k);
+      row = row-block (below-drop 8 b);
+      size = m;
+      whole = ap (λ (x : List ℕ). chaining decrypting w (count entry) x body) (block-at (drop 8 entry) (below-drop 8 b) k);
     }
 
 -- The block b is written, and q goes before the next.
-module _ {clear : Bool} {w entry body out : List ℕ} {at left : ℕ} {p : List ℕ} (c : Chained clear w entry body out at left p) where
+module _ {decrypting : Bool} {w entry body out : List ℕ} {at left : ℕ} {p : List ℕ} (c : Chained decrypting w entry body out at left p) where
   chain-step : {b q : List ℕ} → 0 < left → Row 4 b → Row 4 q
-      → chaining clear w left (bytesOf p) (drop at body) ≡ bytesOf b ++ chaining clear w (left - 1) (bytesOf q) (drop (at + 16) body)
-      → Chained clear w entry body (putMid at (at + 16 - at) out (bytesOf b)) (at + 16) (left - 1) q
+      → chaining decrypting w left (bytesOf p) (drop at body) ≡ bytesOf b ++ chaining decrypting w (left - 1) (bytesOf q) (drop (at + 16) body)
+      → Chained decrypting w entry body (putMid at (at + 16 - at) out (bytesOf b)) (at + 16) (left - 1) q
   chain-step {b} {q} h rb rq e =
-      let fits : at + 16 ≤ length out = omega (arith, c .place, c .long) in
+      let fits : at + 16 ≤ length out = omega (arith, c .place, c .size) in
       record {
         place = omega (arith, c .place);
         row = rq;
-        long = length-part at 16 out (bytesOf b) (length-bytes rb) fits ∙ c .long;
+        size = length-part at 16 out (bytesOf b) (length-bytes rb) fits ∙ c .size;
         whole = fill-part at 16 out (bytesOf b) _ (length-bytes rb) fits (rw e at (c .whole));
       }
 
-pub chain-end : (clear : Bool) {w entry body out : List ℕ} {at left : ℕ} {p : List ℕ} → Chained clear w entry body out at left p → left ≡ 0
-    → out ≡ choose clear (encryptBody (encryptUnder w)) (decryptBody (decryptUnder w)) entry body
-unfolding encryptBody decryptBody
-chain-end true {w} {entry} {body} {out} {at} c z = filled at out (omega (arith, c .place, c .long)) (rw (z, encrypt-done) at (c .whole))
-chain-end false {w} {entry} {body} {out} {at} c z = filled at out (omega (arith, c .place, c .long)) (rw (z, decrypt-done) at (c .whole))
+pub chain-end : (decrypting : Bool) {w entry body out : List ℕ} {at left : ℕ} {p : List ℕ} → Chained decrypting w entry body out at left p → left ≡ 0
+    → out ≡ choose decrypting (decryptBody (decryptUnder w)) (encryptBody (encryptUnder w)) entry body
+unfolding encryptBody decryptBody cbcEncrypt cbcDecrypt
+chain-end false {w} {entry} {body} {out} {at} c z = fill-end out at _ (omega (arith, c .place, c .size)) (rw z at (c .whole))
+chain-end true {w} {entry} {body} {out} {at} c z = fill-end out at _ (omega (arith, c .place, c .size)) (rw z at (c .whole))
 
 -- One turn of each chaining.
 module _ {w body p : List ℕ} (at : ℕ) {left : ℕ} (words : Below (2 ^ 32) w) (before : Row 4 p) (bytes : Below 256 body) (fits : at + 16 ≤ length body) (h : 0 < left) where
@@ -138,19 +129,19 @@ module _ {w body p : List ℕ} (at : ℕ) {left : ℕ} (words : Below (2 ^ 32) w
       (decrypt-step words before (below-drop at bytes) long) (sym (block-at (drop at body) (below-drop at bytes) long))
 
 -- The same turns, as a loop makes them: c is the chain.
-pub chain-turn : (clear : Bool) (c : Chain) {w entry body out : List ℕ} {at left : ℕ} → Below (2 ^ 32) w → Below 256 body → length body ≡ 16 * count entry → 0 < left
-    → Chained clear w entry body out at left (c .previous)
-    → let s : Step = choose clear (encryptStep w) (decryptStep w) c (wordsOf 4 (drop at body)) in
-    Chained clear w entry body (putMid at (at + 16 - at) out (bytesOf (s .block))) (at + 16) (left - 1) (s .next .previous)
-chain-turn true c {w} {entry} {body} {out} {at} words bytes size h d =
+pub chain-turn : (decrypting : Bool) (c : Chain) {w entry body out : List ℕ} {at left : ℕ} → Below (2 ^ 32) w → Below 256 body → length body ≡ 16 * count entry → 0 < left
+    → Chained decrypting w entry body out at left (c .previous)
+    → let s : Step = choose decrypting (decryptStep w) (encryptStep w) c (wordsOf 4 (drop at body)) in
+    Chained decrypting w entry body (putMid at (at + 16 - at) out (bytesOf (s .block))) (at + 16) (left - 1) (s .next .previous)
+chain-turn false c {w} {entry} {body} {out} {at} words bytes size h d =
     let f : at + 16 ≤ length body = omega (arith, d .place) in
     let r : Row 4 (encryptWords w (xors (c .previous) (wordsOf 4 (drop at body)))) = row-encrypted words (d .row) (below-drop at bytes) (rw length-drop (omega arith)) in
     chain-step d h r r (encrypt-turn at words (d .row) bytes f h)
-chain-turn false c {w} {entry} {body} {out} {at} words bytes size h d =
+chain-turn true c {w} {entry} {body} {out} {at} words bytes size h d =
     let f : at + 16 ≤ length body = omega (arith, d .place) in
     chain-step d h
     (row-decrypted words (d .row) (below-drop at bytes) (rw length-drop (omega arith)))
-    (row-at (drop at body) (below-drop at bytes))
+    (row-block (below-drop at bytes))
     (decrypt-turn at words (d .row) bytes f h)
 
 -- ---- the block that is read ahead: it begins at `end`, or is the first again where n, the number of those that follow, is 0
@@ -161,7 +152,7 @@ ahead-fits (suc n) {end} {size} {from} e h f g = let z : from ≡ end = f (omega
 
 -- ---- a rule of the records, looked at as the chain is undone
 
-pub record Opened (w entry body : List ℕ) (at left : ℕ) (p : List ℕ) : Type 0 where
+pub record Decrypted (w entry body : List ℕ) (at left : ℕ) (p : List ℕ) : Type 0 where
   pub place : at + 16 * left ≡ 16 * count entry
   pub row : Row 4 p
   pub rest : allRecordsHold entry (pieces 16 left (cbcDecrypt (decryptUnder w) left (bytesOf p) (drop at body)))
@@ -174,17 +165,17 @@ pieces-first (suc n) b rest h l =
     let e : suc n - 1 ≡ n = omega arith in
     rw (take-at b rest 16 l, drop-at b rest 16 l, e)
 
-pub opened-start : (w entry body : List ℕ) → Below 256 entry → length entry ≡ 24 → Opened w entry body 0 (count entry) (wordsOf 4 (drop 8 entry))
+pub decrypted-start : (w entry body : List ℕ) → Below 256 entry → length entry ≡ 24 → Decrypted w entry body 0 (count entry) (wordsOf 4 (drop 8 entry))
 unfolding decryptBody
-opened-start w entry body b l =
+decrypted-start w entry body b l =
     let k : 16 ≤ length (drop 8 entry) = rw length-drop (omega arith) in
     record {
       place = omega arith;
-      row = row-at (drop 8 entry) (below-drop 8 b);
+      row = row-block (below-drop 8 b);
       rest = ap (λ (x : List ℕ). allRecordsHold entry (pieces 16 (count entry) (cbcDecrypt (decryptUnder w) (count entry) x body))) (block-at (drop 8 entry) (below-drop 8 b) k);
     }
 
-module _ {w entry body p : List ℕ} {at left : ℕ} (o : Opened w entry body at left p) where
+module _ {w entry body p : List ℕ} {at left : ℕ} (o : Decrypted w entry body at left p) where
   module _ (words : Below (2 ^ 32) w) (bytes : Below 256 body) (size : length body ≡ 16 * count entry) (h : 0 < left) where
     abbrev clear : List ℕ
     clear = xors p (decryptWords w (wordsOf 4 (drop at body)))
@@ -204,13 +195,13 @@ module _ {w entry body p : List ℕ} {at left : ℕ} (o : Opened w entry body at
     peeled =
         rw (decrypt-turn at words (o .row) bytes fits h, pieces-first left (bytesOf clear) (cbcDecrypt (decryptUnder w) (left - 1) (bytesOf (wordsOf 4 (drop at body))) (drop (at + 16) body)) h (length-bytes row-clear)) at (o .rest)
 
-    pub opened-broken : recordHolds entry (bytesOf clear) ≡ false → false ≡ sheetHolds entry (decryptBody (decryptUnder w) entry body)
-    opened-broken e = rw e at peeled
+    pub decrypted-broken : recordHolds entry (bytesOf clear) ≡ false → false ≡ sheetHolds entry (decryptBody (decryptUnder w) entry body)
+    decrypted-broken e = rw e at peeled
 
-    pub opened-step : recordHolds entry (bytesOf clear) ≡ true → Opened w entry body (at + 16) (left - 1) (wordsOf 4 (drop at body))
-    opened-step e =
-        record { place = omega (arith, o .place); row = row-at (drop at body) (below-drop at bytes); rest = rw e at peeled }
+    pub decrypted-step : recordHolds entry (bytesOf clear) ≡ true → Decrypted w entry body (at + 16) (left - 1) (wordsOf 4 (drop at body))
+    decrypted-step e =
+        record { place = omega (arith, o .place); row = row-block (below-drop at bytes); rest = rw e at peeled }
 
-  pub opened-end : left ≡ 0 → true ≡ sheetHolds entry (decryptBody (decryptUnder w) entry body)
+  pub decrypted-end : left ≡ 0 → true ≡ sheetHolds entry (decryptBody (decryptUnder w) entry body)
   unfolding allRecordsHold pieces
-  opened-end z = rw z at (o .rest)
+  decrypted-end z = rw z at (o .rest)

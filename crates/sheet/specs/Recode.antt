@@ -1,7 +1,7 @@
--- What is done to a block and to a body, by the first byte of the book: 1 where the book is clear, else it is encrypted.
+-- What is done to a block and to a body, by the direction.
 use Prim.Native.Nat.{ℕ}
+use mathlib.Core.Bool.{Bool}
 use mathlib.Core.List.{List}
-use lib.Dec.{eqb}
 use Rattle.clefia_spec.specs.Words.{choose}
 use Rattle.clefia_spec.specs.Block.{encryptUnder, decryptUnder}
 use Rattle.planbook_spec.specs.Book.{encryptBody, decryptBody}
@@ -9,9 +9,9 @@ use Rattle.sheet.specs.declared.chain.Chain.{Chain}
 use Rattle.sheet.specs.declared.chain.Step.{Step}
 use Rattle.sheet.specs.Chain.{encryptStep, decryptStep}
 
-abbrev pub recodeStep : ℕ → List ℕ → Chain → List ℕ → Step
-recodeStep mark w = choose (eqb mark 1) (encryptStep w) (decryptStep w)
+abbrev pub recodeStep : Bool → List ℕ → Chain → List ℕ → Step
+recodeStep decrypting w = choose decrypting (decryptStep w) (encryptStep w)
 
--- The body of the other book: a clear one encrypted, an encrypted one decrypted.
-abbrev pub recodedBody : ℕ → List ℕ → List ℕ → List ℕ → List ℕ
-recodedBody mark w = choose (eqb mark 1) (encryptBody (encryptUnder w)) (decryptBody (decryptUnder w))
+-- The body of the other book: an encrypted one decrypted, a clear one encrypted.
+abbrev pub recodedBody : Bool → List ℕ → List ℕ → List ℕ → List ℕ
+recodedBody decrypting w = choose decrypting (decryptBody (decryptUnder w)) (encryptBody (encryptUnder w))

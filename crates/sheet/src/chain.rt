@@ -68,10 +68,10 @@ impl Chain {
         }
     }
 
-    // By the first byte of a book: 1 where it is clear, and its blocks are encrypted; else they are decrypted.
+    // In either direction.
     pub fn recode(
         self,
-        mark: u8,
+        decrypting: bool,
         words: &[[u32; 256]],
         bytes: &[[u8; 256]],
         w: &[u32],
@@ -79,12 +79,12 @@ impl Chain {
     ) -> Step
         requires { ⌜ Lent (now words) (now bytes) ⌝ }
         requires { ⌜ 4 ≤ length (now w) ⌝ }
-        ensures { λ r. ⌜ r ≡ recodeStep mark (now (w .entry)) self block ⌝ }
+        ensures { λ r. ⌜ r ≡ recodeStep decrypting (now (w .entry)) self block ⌝ }
     {
-        if mark == 1 {
-            self.encrypt(words, bytes, w, block)
-        } else {
+        if decrypting {
             self.decrypt(words, bytes, w, block)
+        } else {
+            self.encrypt(words, bytes, w, block)
         }
     }
 }

@@ -1,5 +1,4 @@
-// The body of one sheet, recoded block by block. `mark` is the first byte of the book: 1 where it is clear, and its sheets are encrypted; 2 where it is
-// encrypted, and they are decrypted. `entry` is the sheet's entry.
+// The body of one sheet, encrypted or decrypted block by block. `entry` is the sheet's entry.
 ghost use mathlib.Core.Path.{_≡_};
 ghost use Prim.Native.Nat.{_*_, _≤_};
 ghost use lib.ListN.{length};
@@ -11,7 +10,7 @@ use super::chain::Chain;
 use form::entry;
 
 pub fn recode_sheet(
-    mark: u8,
+    decrypting: bool,
     words: &[[u32; 256]],
     bytes: &[[u8; 256]],
     w: &[u32],
@@ -22,7 +21,7 @@ pub fn recode_sheet(
     requires { ⌜ Lent (now words) (now bytes) ⌝ }
     requires { ⌜ (4 ≤ length (now w)) × (length (now entry) ≡ 24) ⌝ }
     requires { ⌜ (length (now body) ≡ 16 * count (now entry)) × (length (now out) ≡ 16 * count (now entry)) ⌝ }
-    ensures { λ r. ⌜ now (out .exit) ≡ recodedBody mark (now (w .entry)) (now (entry .entry)) (now (body .entry)) ⌝ }
+    ensures { λ r. ⌜ now (out .exit) ≡ recodedBody decrypting (now (w .entry)) (now (entry .entry)) (now (body .entry)) ⌝ }
 {
     let mut left = entry::half(entry, 4);
     if left == 0 {
@@ -33,7 +32,7 @@ pub fn recode_sheet(
     let mut at = 0;
     while 0 < left {
         let end = at + 16;
-        let step = chain.recode(mark, words, bytes, w, block);
+        let step = chain.recode(decrypting, words, bytes, w, block);
         let written = step.block;
         let from = blocks::following(end, body.len());
         let read = blocks::exchange(&mut out[at..end], written, body, from);

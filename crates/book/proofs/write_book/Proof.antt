@@ -5,6 +5,9 @@ use borrow.Author.Needs.{needs}
 use Rattle.book.proofs.write_book.Statement.{statement}
 use Rattle.book.proofs.write_book.Tie as tie
 
+mark-requires : tie.Need-mark-requires
+mark-requires c κs = search needs
+
 copy-front-requires : tie.Need-copy-front-requires
 copy-front-requires c κs = search needs
 
@@ -18,8 +21,9 @@ returns : tie.Need-returns
 returns c =
     let r : tie.After-recode-bodies = c .before .before in
     let f : tie.After-copy-front = r .before .before .before .before in
-    r .recode-bodies .ensures ∙ recoded-whole (f .before .before .before .before .before .args .to) _ (f .before .before .before .before .before .pre .1 .1) (f .copy-front .ensures)
+    let m : tie.After-mark = f .before .before in
+    r .recode-bodies .ensures ∙ recoded-whole _ _ (m .before .before .before .before .pre .1 .1) (rw (m .mark .ensures) at (f .copy-front .ensures))
 
 pub write-book-spec : {M : Type 1} → statement M
 write-book-spec =
-    tie.close (tie.spec copy-front-requires recode-bodies-requires same-length returns)
+    tie.close (tie.spec mark-requires copy-front-requires recode-bodies-requires same-length returns)

@@ -6,7 +6,7 @@ use Rattle.calls.proofs.keyed_call.Statement.{statement}
 use Rattle.calls.proofs.keyed_call.Tie as tie
 
 abbrev start : tie.After-known-told → tie.Start
-start k = k .before .before .before .before .before .before .before
+start k = k .before .before .before .before .before .before .before .before
 
 passed : (k : tie.After-known-told) → Keyed (start k .args .key .now) (start k .args .way) (k .before .checked .given .0 .0)
 passed k = keyed _ _ (sym (k .before .checked .given .1) ∙ k .before .before .before .check-key .ensures)
@@ -21,7 +21,7 @@ enum-told : tie.Need-enum-told
 enum-told c = search needs
 
 returns : tie.Need-returns
-returns c = keyed-refused _ _ _ _ _ (c .before .before .check-key .ensures) (c .enum-told .given .1)
+returns c = keyed-refused _ _ _ _ _ _ (c .before .before .check-key .ensures) (c .enum-told .given .1)
 
 array-borrow-prefix-w : tie.Need-array-borrow-prefix-w
 array-borrow-prefix-w c = expanded-fits (passed c)
@@ -37,7 +37,7 @@ same-length c = search needs
 
 returns-2 : tie.Need-returns-2
 returns-2 c =
-    let a : tie.After-perform-by = c .before .before .before in keyed-passed _ _ _ (passed (a .before .before .before)) (a .perform-by .ensures)
+    let a : tie.After-perform-by = c .before .before .before in keyed-passed _ _ _ _ (passed (a .before .before .before)) (a .perform-by .ensures)
 
 pub keyed-call-spec : {M : Type 1} → statement M
 keyed-call-spec =

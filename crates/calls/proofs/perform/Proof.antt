@@ -17,7 +17,7 @@ use Rattle.calls.proofs.perform.Statement.{statement}
 use Rattle.calls.proofs.perform.Tie as tie
 
 abbrev start : tie.After-expand-key → tie.Start
-start e = e .before .before .before .before .before .before
+start e = e .before .before .before .before .before .before .before
 
 -- the expanded key, and how many words it has
 abbrev expanded : tie.After-expand-key → List ℕ
@@ -32,9 +32,9 @@ ready e = (start e .pre .0, expanded-range (start e .pre .1 .0) (count e) .0)
 
 -- a task done under the words is the task done
 finished : (e : tie.After-expand-key) {t : Task} {exit : List ℕ} {r : Answer} → start e .args .task ≡ t
-    → Given (under t (length (expanded e)) (expanded e) (start e .args .src .now) (start e .args .out .now)) (start e .args .out .now) r exit
-    → Given (performed (start e .args .task) (start e .args .key .now) (start e .args .src .now) (start e .args .out .now)) (start e .args .out .now) r exit
-finished e h g = given-performed _ _ _ h (e .expand-key .ensures) (count e) g
+    → Given (under t (length (expanded e)) (expanded e) (start e .args .iv .now) (start e .args .src .now) (start e .args .out .now)) (start e .args .out .now) r exit
+    → Given (performed (start e .args .task) (start e .args .key .now) (start e .args .iv .now) (start e .args .src .now) (start e .args .out .now)) (start e .args .out .now) r exit
+finished e h g = given-performed _ _ _ _ h (e .expand-key .ensures) (count e) g
 
 expand-key-requires : tie.Need-expand-key-requires
 expand-key-requires c κs = search needs

@@ -3,9 +3,9 @@ use mathlib.Core.Path.{sym, ap, _∙_}
 use borrow.Author.Needs.{needs}
 use Rattle.answer.specs.Answer.{answerOf}
 use Rattle.answer.specs.declared.Answer.the-variants.{Accepted}
-use Rattle.planbook_spec.specs.OutcomeLaws.{judged-true, judged-false}
+use Rattle.planbook_spec.specs.OutcomeLaws.{none, judged-pass, judged-true, judged-false}
 use Rattle.planbook_spec.specs.Checks.{keyCheck, wayCheck}
-use Rattle.checks.specs.Laws.{no-checks, failed, passed, expanded-size}
+use Rattle.checks.specs.Laws.{failed, passed, expanded-size}
 use Rattle.checks.proofs.check_key.Statement.{statement}
 use Rattle.checks.proofs.check_key.Tie as tie
 
@@ -37,7 +37,7 @@ returns-3 c =
     let e : tie.Else1 = c .before .before in
     let p = passed (e .before .one-of .ensures) (e .if1 .left) in
     ap Accepted (expanded-size _ p)
-    ∙ sym (ap answerOf (judged-true p 1 _ _ ∙ judged-true (passed (c .before .one-of2 .ensures) (c .if2 .left)) 2 _ _ ∙ no-checks _))
+    ∙ sym (ap answerOf (judged-true p 1 _ _ ∙ judged-true (passed (c .before .one-of2 .ensures) (c .if2 .left)) 2 _ _ ∙ judged-pass none _))
 
 pub check-key-spec : {M : Type 1} → statement M
 check-key-spec =

@@ -1,7 +1,7 @@
 -- `ffunction::by_bytes` meets its contract: M0 goes with F0, M1 with F1.
 use native.Mathlib.Omega.{arith}
-use mathlib.Core.Path.{_≡_, ap, _∙_}
-use Rattle.clefia_spec.specs.FFunction.{m0, m1, matrixTimes}
+use mathlib.Core.Path.{_≡_}
+use Rattle.clefia_spec.specs.FFunction.{m0, m1}
 use Rattle.ffunction.specs.Tables.{matrix, mix}
 use borrow.Author.Needs.{needs}
 use Rattle.ffunction.proofs.by_bytes.Statement.{statement}

@@ -1,11 +1,16 @@
--- `planbook::planbook_decrypt_block` meets its contract: the number of the answer, and the output, of the call below.
+-- `planbook::planbook_decrypt_block` meets its contract: the number of the answer, and the output, of the keyed call with its task.
 use borrow.Author.Needs.{needs}
 use Rattle.answer.specs.Answer.{answers}
+use Rattle.answer.specs.Judging.{given-same}
+use Rattle.calls.specs.Tasks.{decrypt-block-keyed}
 use Rattle.planbook.proofs.planbook_decrypt_block.Statement.{statement}
 use Rattle.planbook.proofs.planbook_decrypt_block.Tie as tie
 
-decrypt-block-requires : tie.Need-decrypt-block-requires
-decrypt-block-requires c κs = search needs
+slice-aggregate-keyed-call : tie.Need-slice-aggregate-keyed-call
+slice-aggregate-keyed-call c = search needs
+
+keyed-call-requires : tie.Need-keyed-call-requires
+keyed-call-requires c κs = search needs
 
 number-requires : tie.Need-number-requires
 number-requires c κs = search needs
@@ -14,7 +19,7 @@ same-length : tie.Need-same-length
 same-length c = search needs
 
 returns : tie.Need-returns
-returns c = answers (c .before .before .before .decrypt-block .ensures) (c .number .ensures)
+returns c = answers (given-same (decrypt-block-keyed _ _ _ _) (c .before .before .before .keyed-call .ensures)) (c .number .ensures)
 
 pub planbook-decrypt-block-spec : {M : Type 1} → statement M
-planbook-decrypt-block-spec = tie.close (tie.spec decrypt-block-requires number-requires same-length returns)
+planbook-decrypt-block-spec = tie.close (tie.spec slice-aggregate-keyed-call keyed-call-requires number-requires same-length returns)

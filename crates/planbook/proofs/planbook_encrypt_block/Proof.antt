@@ -1,11 +1,16 @@
--- `planbook::planbook_encrypt_block` meets its contract: the number of the answer, and the output, of the call below.
+-- `planbook::planbook_encrypt_block` meets its contract: the number of the answer, and the output, of the keyed call with its task.
 use borrow.Author.Needs.{needs}
 use Rattle.answer.specs.Answer.{answers}
+use Rattle.answer.specs.Judging.{given-same}
+use Rattle.calls.specs.Tasks.{encrypt-block-keyed}
 use Rattle.planbook.proofs.planbook_encrypt_block.Statement.{statement}
 use Rattle.planbook.proofs.planbook_encrypt_block.Tie as tie
 
-encrypt-block-requires : tie.Need-encrypt-block-requires
-encrypt-block-requires c κs = search needs
+slice-aggregate-keyed-call : tie.Need-slice-aggregate-keyed-call
+slice-aggregate-keyed-call c = search needs
+
+keyed-call-requires : tie.Need-keyed-call-requires
+keyed-call-requires c κs = search needs
 
 number-requires : tie.Need-number-requires
 number-requires c κs = search needs
@@ -14,7 +19,7 @@ same-length : tie.Need-same-length
 same-length c = search needs
 
 returns : tie.Need-returns
-returns c = answers (c .before .before .before .encrypt-block .ensures) (c .number .ensures)
+returns c = answers (given-same (encrypt-block-keyed _ _ _ _) (c .before .before .before .keyed-call .ensures)) (c .number .ensures)
 
 pub planbook-encrypt-block-spec : {M : Type 1} → statement M
-planbook-encrypt-block-spec = tie.close (tie.spec encrypt-block-requires number-requires same-length returns)
+planbook-encrypt-block-spec = tie.close (tie.spec slice-aggregate-keyed-call keyed-call-requires number-requires same-length returns)

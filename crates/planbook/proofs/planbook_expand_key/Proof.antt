@@ -1,11 +1,19 @@
--- `planbook::planbook_expand_key` meets its contract: the number of the answer, and the output, of the call below.
+-- `planbook::planbook_expand_key` meets its contract: the number of the answer, and the output, of the keyed call with its task.
 use borrow.Author.Needs.{needs}
 use Rattle.answer.specs.Answer.{answers}
+use Rattle.answer.specs.Judging.{given-same}
+use Rattle.calls.specs.Tasks.{expand-key-keyed}
 use Rattle.planbook.proofs.planbook_expand_key.Statement.{statement}
 use Rattle.planbook.proofs.planbook_expand_key.Tie as tie
 
-expand-key-requires : tie.Need-expand-key-requires
-expand-key-requires c κs = search needs
+slice-aggregate-keyed-call : tie.Need-slice-aggregate-keyed-call
+slice-aggregate-keyed-call c = search needs
+
+slice-aggregate-keyed-call-2 : tie.Need-slice-aggregate-keyed-call-2
+slice-aggregate-keyed-call-2 c = search needs
+
+keyed-call-requires : tie.Need-keyed-call-requires
+keyed-call-requires c κs = search needs
 
 number-requires : tie.Need-number-requires
 number-requires c κs = search needs
@@ -14,7 +22,7 @@ same-length : tie.Need-same-length
 same-length c = search needs
 
 returns : tie.Need-returns
-returns c = answers (c .before .before .before .expand-key .ensures) (c .number .ensures)
+returns c = answers (given-same (expand-key-keyed _ _ _) (c .before .before .before .keyed-call .ensures)) (c .number .ensures)
 
 pub planbook-expand-key-spec : {M : Type 1} → statement M
-planbook-expand-key-spec = tie.close (tie.spec expand-key-requires number-requires same-length returns)
+planbook-expand-key-spec = tie.close (tie.spec slice-aggregate-keyed-call slice-aggregate-keyed-call-2 keyed-call-requires number-requires same-length returns)

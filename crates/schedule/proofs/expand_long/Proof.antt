@@ -3,7 +3,7 @@ use mathlib.Core.Path.{_∙_}
 use borrow.Author.Needs.{needs}
 use Rattle.clefia_spec.specs.KeySchedule.{expandLong}
 use Rattle.rows.specs.Rows.{take-putFour}
-use Rattle.schedule.specs.Steps.{half}
+use Rattle.schedule.specs.Steps.{turns}
 use Rattle.schedule.proofs.expand_long.Statement.{statement}
 use Rattle.schedule.proofs.expand_long.Tie as tie
 
@@ -28,7 +28,7 @@ second-half-requires c κs = search needs
 round-keys-requires : tie.Need-round-keys-requires
 round-keys-requires c κs =
     let p : tie.After-put-four = c .before .before .before .before .before in
-    (half, (search needs, p .put-four .kept .0 ∙ p .before .before .before .before .before .before .before .pre .1 .1))
+    (turns, (search needs, p .put-four .kept .0 ∙ p .before .before .before .before .before .before .before .pre .1 .1))
 
 same-length : tie.Need-same-length
 same-length c = search needs

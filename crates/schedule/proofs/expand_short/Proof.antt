@@ -3,7 +3,7 @@ use mathlib.Core.Path.{_∙_}
 use borrow.Author.Needs.{needs}
 use Rattle.clefia_spec.specs.KeySchedule.{expandShort}
 use Rattle.rows.specs.Rows.{take-putFour}
-use Rattle.schedule.specs.Steps.{all}
+use Rattle.schedule.specs.Steps.{always}
 use Rattle.schedule.proofs.expand_short.Statement.{statement}
 use Rattle.schedule.proofs.expand_short.Tie as tie
 
@@ -25,7 +25,7 @@ slice-aggregate-round-keys c = search needs
 round-keys-requires : tie.Need-round-keys-requires
 round-keys-requires c κs =
     let p : tie.After-put-four = c .before .before .before .before in
-    (all, (search needs, p .put-four .kept .0 ∙ p .before .before .before .before .before .before .pre .1))
+    (always, (search needs, p .put-four .kept .0 ∙ p .before .before .before .before .before .before .pre .1))
 
 same-length : tie.Need-same-length
 same-length c = search needs

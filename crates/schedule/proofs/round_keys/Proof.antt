@@ -1,27 +1,28 @@
 -- `schedule::round_keys` meets its contract.
-use Prim.Native.Nat.{_+_, _-_, _*_, _/_, _≤_}
+use Prim.Native.Nat.{_+_, _-_, _*_, _≤_}
+use mathlib.Core.Bool.{true, false}
 use mathlib.Core.List.{_++_}
-use mathlib.Core.Path.{_≡_, refl, _∙_}
+use mathlib.Core.Path.{_≡_, refl, sym, _∙_}
 use native.Mathlib.Nat.{sub-zero}
 use lib.ListN.{length, take}
 use borrow.Author.Needs.{needs}
 use Rattle.clefia_spec.specs.KeyLaws.{length-doubleSwap}
 use Rattle.clefia_spec.specs.KeySchedule.{roundKeys}
 use Rattle.rows.specs.Rows.{fill-end}
-use Rattle.schedule.specs.Steps.{fill-own, fill-other, none-left}
+use Rattle.schedule.specs.Steps.{fill, none-left}
 use Rattle.schedule.proofs.round_keys.Statement.{statement}
 use Rattle.schedule.proofs.round_keys.Tie as tie
 
 abbrev Inv-loop : tie.InvT-loop
-Inv-loop own base con n k k2 w₀ a₀ b₀ i₀ w a b i =
+Inv-loop period base con n k k2 w₀ a₀ b₀ i₀ w a b i =
     (i ≤ n)
     × (length w ≡ length w₀)
     × (length a ≡ 4)
     × (length b ≡ 4)
-    × (take (4 + 4 * i) w ++ roundKeys (8 / own) base con (n - i) i k k2 a b ≡ take 4 w₀ ++ roundKeys (8 / own) base con n 0 k k2 a₀ b₀)
+    × (take (4 + 4 * i) w ++ roundKeys period base con (n - i) i k k2 a b ≡ take 4 w₀ ++ roundKeys period base con n 0 k k2 a₀ b₀)
 
 abbrev μ-loop : tie.MeasureT-loop
-μ-loop own base con n k k2 w₀ a₀ b₀ i₀ w a b i = n - i
+μ-loop period base con n k k2 w₀ a₀ b₀ i₀ w a b i = n - i
 
 loop-holds : tie.Need-loop-holds Inv-loop μ-loop
 loop-holds c =
@@ -32,6 +33,9 @@ loop-holds c =
       s .good .1 .1 .1 .1 .1 .1 .1 .0 .1 .0 .1,
       rw sub-zero,
     )
+
+uses-first-row-requires : tie.Need-uses-first-row-requires Inv-loop μ-loop
+uses-first-row-requires c κs = search needs
 
 step-requires : tie.Need-step-requires Inv-loop μ-loop
 step-requires c κs = search needs
@@ -44,7 +48,8 @@ loop-less c = search needs
 
 loop-again : tie.Need-loop-again Inv-loop μ-loop
 loop-again c =
-    let a : tie.At-loop Inv-loop μ-loop = c .before .before .before .before .before .before in
+    let i : tie.Then1 Inv-loop μ-loop = c .before .before .before .before in
+    let a : tie.At-loop Inv-loop μ-loop = i .before .before .before in
     let s : tie.Start Inv-loop μ-loop = a .before .before .before in
     let f : length (c .before .before .step .result) ≡ 4 = rw (c .before .before .step .ensures .0) (length-doubleSwap _) in (
       search needs,
@@ -52,7 +57,7 @@ loop-again c =
       f,
       a .loop .inv .3,
       rw (c .before .before .step .ensures .0, c .before .before .step .ensures .1)
-          (fill-own (s .pre .0) (s .args .base) (s .args .con .now) (s .args .n) (a .loop .i) (s .args .k) (s .args .k2) (a .loop .a) (a .loop .b) (a .loop .w) _ (search needs) (search needs) (a .loop .inv .4) (search needs) (a .loop .inv .2)),
+          (fill (s .args .period) (s .args .base) (s .args .con .now) (s .args .n) (a .loop .i) (s .args .k) (s .args .k2) (a .loop .a) (a .loop .b) (a .loop .w) _ (search needs) (search needs) (a .loop .inv .4) true (a .loop .inv .2) (sym (i .before .uses-first-row .ensures) ∙ i .if1 .taken)),
     )
 
 step-requires-2 : tie.Need-step-requires-2 Inv-loop μ-loop
@@ -66,7 +71,8 @@ loop-less-2 c = search needs
 
 loop-again-2 : tie.Need-loop-again-2 Inv-loop μ-loop
 loop-again-2 c =
-    let a : tie.At-loop Inv-loop μ-loop = c .before .before .before .before .before .before in
+    let i : tie.Else1 Inv-loop μ-loop = c .before .before .before .before in
+    let a : tie.At-loop Inv-loop μ-loop = i .before .before .before in
     let s : tie.Start Inv-loop μ-loop = a .before .before .before in
     let f : length (c .before .before .step2 .result) ≡ 4 = rw (c .before .before .step2 .ensures .0) (length-doubleSwap _) in (
       search needs,
@@ -74,7 +80,7 @@ loop-again-2 c =
       a .loop .inv .2,
       f,
       rw (c .before .before .step2 .ensures .0, c .before .before .step2 .ensures .1)
-          (fill-other (s .pre .0) (s .args .base) (s .args .con .now) (s .args .n) (a .loop .i) (s .args .k) (s .args .k2) (a .loop .a) (a .loop .b) (a .loop .w) _ (search needs) (search needs) (a .loop .inv .4) (search needs) (a .loop .inv .3)),
+          (fill (s .args .period) (s .args .base) (s .args .con .now) (s .args .n) (a .loop .i) (s .args .k) (s .args .k2) (a .loop .a) (a .loop .b) (a .loop .w) _ (search needs) (search needs) (a .loop .inv .4) false (a .loop .inv .3) (sym (i .before .uses-first-row .ensures) ∙ i .if1 .left)),
     )
 
 same-length : tie.Need-same-length Inv-loop μ-loop
@@ -94,6 +100,7 @@ round-keys-spec =
     Inv-loop
     μ-loop
     loop-holds
+    uses-first-row-requires
     step-requires
     add-i
     loop-less

@@ -14,10 +14,10 @@ use Rattle.book.proofs.bodies.recode_bodies.Statement.{statement}
 use Rattle.book.proofs.bodies.recode_bodies.Tie as tie
 
 abbrev Inv-loop : tie.InvT-loop
-Inv-loop mark words bytes w book out₀ left₀ from₀ at₀ out left from at = Filled (recodedBody mark w) book out₀ out from at left
+Inv-loop decrypting words bytes w book out₀ left₀ from₀ at₀ out left from at = Filled (recodedBody decrypting w) book out₀ out from at left
 
 abbrev μ-loop : tie.MeasureT-loop
-μ-loop mark words bytes w book out₀ left₀ from₀ at₀ out left from at = left
+μ-loop decrypting words bytes w book out₀ left₀ from₀ at₀ out left from at = left
 
 abbrev start : tie.In-loop Inv-loop μ-loop → tie.Start Inv-loop μ-loop
 start i = i .before .before .before .before .before .before
@@ -30,7 +30,7 @@ recoded : (c : tie.After-recode-sheet Inv-loop μ-loop) →
     let i : tie.In-loop Inv-loop μ-loop = c .before .before .before .before .before in
     let s : tie.Start Inv-loop μ-loop = start i in
     let e : List ℕ = entryAt (s .args .book .now) (i .before .loop .from) in
-    c .recode-sheet .last .1 .1 .1 .1 .1 .1 .0 ≡ recodedBody (s .args .mark) (s .args .w .now) e (take (16 * count e) (drop (i .before .loop .at) (s .args .book .now)))
+    c .recode-sheet .last .1 .1 .1 .1 .1 .1 .0 ≡ recodedBody (s .args .decrypting) (s .args .w .now) e (take (16 * count e) (drop (i .before .loop .at) (s .args .book .now)))
 recoded c =
     let b : tie.After-body-end Inv-loop μ-loop = c .before .before .before .before in
     let i : tie.In-loop Inv-loop μ-loop = b .before in

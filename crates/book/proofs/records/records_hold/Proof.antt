@@ -14,10 +14,10 @@ use Rattle.book.proofs.records.records_hold.Statement.{statement}
 use Rattle.book.proofs.records.records_hold.Tie as tie
 
 abbrev Inv-loop : tie.InvT-loop
-Inv-loop mark words bytes w book left₀ from₀ at₀ left from at = Tested (clearBody mark w) book from at left
+Inv-loop decrypting words bytes w book left₀ from₀ at₀ left from at = Tested (clearBody decrypting w) book from at left
 
 abbrev μ-loop : tie.MeasureT-loop
-μ-loop mark words bytes w book left₀ from₀ at₀ left from at = left
+μ-loop decrypting words bytes w book left₀ from₀ at₀ left from at = left
 
 abbrev start : tie.In-loop Inv-loop μ-loop → tie.Start Inv-loop μ-loop
 start i = i .before .before .before .before .before
@@ -30,7 +30,7 @@ tested : (c : tie.After-sheet-holds Inv-loop μ-loop) →
     let i : tie.In-loop Inv-loop μ-loop = c .before .before .before .before in
     let s : tie.Start Inv-loop μ-loop = start i in
     let e : List ℕ = entryAt (s .args .book .now) (i .before .loop .from) in
-    c .sheet-holds .result ≡ sheetHolds e (clearBody (s .args .mark) (s .args .w .now) e (take (16 * count e) (drop (i .before .loop .at) (s .args .book .now))))
+    c .sheet-holds .result ≡ sheetHolds e (clearBody (s .args .decrypting) (s .args .w .now) e (take (16 * count e) (drop (i .before .loop .at) (s .args .book .now))))
 tested c =
     let b : tie.After-body-end Inv-loop μ-loop = c .before .before .before in
     let i : tie.In-loop Inv-loop μ-loop = b .before in
@@ -47,7 +47,7 @@ add-at : tie.Need-add-at Inv-loop μ-loop
 add-at c = search needs
 
 loop-holds : tie.Need-loop-holds Inv-loop μ-loop
-loop-holds c = rw (c .half .ensures) (tested-start _ (c .before .before .before .pre .1 .1))
+loop-holds c = rw (c .half .ensures) (tested-start _ (c .before .before .before .pre .1))
 
 add-next : tie.Need-add-next Inv-loop μ-loop
 add-next c = search needs
@@ -82,7 +82,7 @@ sheet-holds-requires c κs =
     let s : tie.Start Inv-loop μ-loop = start i in (
       s .pre .0,
       (
-        (s .pre .1 .0, part-length 24 (i .before .loop .from) (s .args .book .now) refl (following i .entry)),
+        part-length 24 (i .before .loop .from) (s .args .book .now) refl (following i .entry),
         rw (part 24 (i .before .loop .from) (s .args .book .now) refl) (part-length _ (i .before .loop .at) (s .args .book .now) (b .body-end .ensures) (following i .body)),
       ),
     )

@@ -4,19 +4,19 @@ use native.Mathlib.Omega.{arith}
 use borrow.Author.Tests.{not-true, not-false}
 use Rattle.clefia_spec.specs.Words.{bytesOf, Below}
 use Rattle.clefia_spec.specs.DigitLaws.{below-all, below-drop}
-use Rattle.form.specs.declared.entry.Sheet.{Sheet}
+use Rattle.form.specs.Entry.{sheetOf}
 use Prim.Native.Nat.{ℕ, _+_, _*_, _≤_}
 use mathlib.Core.Path.{_≡_, refl, sym, ap, _∙_}
 use borrow.Author.Needs.{needs}
 use lib.ListN.{length, take, drop, length-drop}
-use Rattle.planbook_spec.specs.Book.{trial, count, pieces, recordHolds, allRecordsHold, sheetHolds}
-use Rattle.planbook_spec.specs.WalkLaws.{record-next, record-broken, records-done}
+use Rattle.planbook_spec.specs.Book.{count, pieces, recordHolds, allRecordsHold, sheetHolds}
+use Rattle.planbook_spec.specs.WalkLaws.{records-next}
 use Rattle.form.specs.Blocks.{block-at}
 use Rattle.form.proofs.record.clear_sheet_holds.Statement.{statement}
 use Rattle.form.proofs.record.clear_sheet_holds.Tie as tie
 
 abbrev Inv-loop : tie.InvT-loop
-Inv-loop entry body sheet at₀ left₀ at left = (at + 16 * left ≡ 16 * count entry) × (sheet .trial ≡ trial entry) × (allRecordsHold entry (pieces 16 left (drop at body)) ≡ sheetHolds entry body)
+Inv-loop entry body sheet at₀ left₀ at left = (at + 16 * left ≡ 16 * count entry) × (sheet ≡ sheetOf entry) × (allRecordsHold entry (pieces 16 left (drop at body)) ≡ sheetHolds entry body)
 
 abbrev μ-loop : tie.MeasureT-loop
 μ-loop entry body sheet at₀ left₀ at left = left
@@ -46,7 +46,7 @@ read-sheet-requires c κs = search needs
 loop-holds : tie.Need-loop-holds Inv-loop μ-loop
 loop-holds c =
     let s : c .read-sheet .result ≡ _ = c .read-sheet .ensures in
-    (rw s (omega arith), ap (λ (x : Sheet). x .trial) s, rw s refl)
+    (rw s (omega arith), s, rw s refl)
 
 load-requires : tie.Need-load-requires Inv-loop μ-loop
 load-requires c κs = search needs
@@ -57,7 +57,7 @@ record-holds-requires c κs = search needs
 returns : tie.Need-returns Inv-loop μ-loop
 returns c =
     let i : tie.In-loop Inv-loop μ-loop = c .before .before .before in
-    sym (record-broken (entry i) (i .before .loop .left) (i .before .loop .at) (body i) (search needs) (sym (tested (c .before)) ∙ not-true _ (c .if1 .taken)))
+    sym (records-next (entry i) (i .before .loop .left) (i .before .loop .at) (body i) (search needs) (sym (tested (c .before)) ∙ not-true _ (c .if1 .taken)))
     ∙ i .before .loop .inv .2
 
 add-at : tie.Need-add-at Inv-loop μ-loop
@@ -74,14 +74,13 @@ loop-again c =
     let i : tie.In-loop Inv-loop μ-loop = c .before .before .before in (
       search needs,
       i .before .loop .inv .1,
-      sym (record-next (entry i) (i .before .loop .left) (i .before .loop .at) (body i) (search needs) (sym (tested (c .before)) ∙ not-false _ (c .if1 .left)))
+      sym (records-next (entry i) (i .before .loop .left) (i .before .loop .at) (body i) (search needs) (sym (tested (c .before)) ∙ not-false _ (c .if1 .left)))
           ∙ i .before .loop .inv .2,
     )
 
 returns-2 : tie.Need-returns-2 Inv-loop μ-loop
-returns-2 c =
-    let z : c .before .loop .left ≡ 0 = search needs in
-    sym (records-done _ (c .before .loop .at) _) ∙ (rw z at (c .before .loop .inv .2))
+unfolding allRecordsHold pieces
+returns-2 c = let z : c .before .loop .left ≡ 0 = search needs in rw z at (c .before .loop .inv .2)
 
 pub clear-sheet-holds-spec : {M : Type 1} → statement M
 clear-sheet-holds-spec =

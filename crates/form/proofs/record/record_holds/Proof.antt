@@ -1,8 +1,9 @@
 -- `form::record::record_holds` meets its contract.
 use mir.Syntax.{w32}
 use Prim.Native.Nat.{ℕ, _^_, _<_}
-use mathlib.Core.Path.{_∙_}
+use mathlib.Core.Path.{ap, _∙_}
 use lib.ListN.{getD}
+use Rattle.form.specs.declared.entry.Sheet.{Sheet}
 use Rattle.form.specs.Blocks.{record-row}
 use borrow.Author.Needs.{needs, elem-fits}
 use Rattle.form.proofs.record.record_holds.Statement.{statement}
@@ -27,7 +28,7 @@ returns : tie.Need-returns
 returns c =
     let a : tie.Start = c .before .before in
     let fits : (i : ℕ) → getD (a .args .t2) i 0 < 2 ^ 32 = λ i. elem-fits w32 w32 (a .args .t2) _ i (a .good .1 .0 .1 .1) tt .fits in
-    λ e h. c .all .ensures ∙ record-row e (a .args .t2) (search needs) (fits 0) (fits 1) (fits 2) h
+    λ e h. c .all .ensures ∙ record-row e (a .args .t2) (search needs) (fits 0) (fits 1) (fits 2) (ap (λ (s : Sheet). s .trial) h)
 
 pub record-holds-spec : {M : Type 1} → statement M
 record-holds-spec =

@@ -3,7 +3,6 @@ use Prim.Native.Nat.{ℕ, _+_, _-_, _*_, _^_, _<_}
 use mathlib.Core.Path.{_≡_, refl, sym, ap, _∙_}
 use native.Mathlib.Omega.{arith}
 use borrow.Author.Needs.{needs}
-use lib.Dec.{eqb}
 use lib.ListN.{length, drop}
 use Rattle.clefia_spec.specs.Words.{wordsOf, Below}
 use Rattle.clefia_spec.specs.DigitLaws.{below-all}
@@ -14,15 +13,15 @@ use Rattle.sheet.proofs.recode.recode_sheet.Statement.{statement}
 use Rattle.sheet.proofs.recode.recode_sheet.Tie as tie
 
 abbrev Inv-loop : tie.InvT-loop
-Inv-loop mark words bytes w entry body out₀ left₀ chain₀ block₀ at₀ out left chain block at = Chained (eqb mark 1) w entry body out at left (chain .previous) × (0 < left → block ≡ wordsOf 4 (drop at body))
+Inv-loop decrypting words bytes w entry body out₀ left₀ chain₀ block₀ at₀ out left chain block at = Chained decrypting w entry body out at left (chain .previous) × (0 < left → block ≡ wordsOf 4 (drop at body))
 
 abbrev μ-loop : tie.MeasureT-loop
-μ-loop mark words bytes w entry body out₀ left₀ chain₀ block₀ at₀ out left chain block at = left
+μ-loop decrypting words bytes w entry body out₀ left₀ chain₀ block₀ at₀ out left chain block at = left
 
 -- before the first block
 begun : (h : tie.After-half Inv-loop μ-loop) →
     let s : tie.Start Inv-loop μ-loop = h .before .before .before .before .before in
-    Chained (eqb (s .args .mark) 1) (s .args .w .now) (s .args .entry .now) (s .args .body .now) (s .args .out .now) 0 (count (s .args .entry .now)) (wordsOf 4 (drop 8 (s .args .entry .now)))
+    Chained (s .args .decrypting) (s .args .w .now) (s .args .entry .now) (s .args .body .now) (s .args .out .now) 0 (count (s .args .entry .now)) (wordsOf 4 (drop 8 (s .args .entry .now)))
 begun h =
     let s : tie.Start Inv-loop μ-loop = h .before .before .before .before .before in
     chain-start _ _ _ (below-all (s .args .entry .now) (λ j k. h .before .before .before .shared-slice-known2 .given j .fits)) (s .pre .1 .0 .1) (s .pre .1 .1 .1)
@@ -69,7 +68,7 @@ exchange-requires c κs =
     let size : length (s .args .body .now) ≡ 16 * count (s .args .entry .now) = s .pre .1 .1 .0 in
     let h : 0 < a .loop .left = c .before .before .before .before .loop-test .taken in
     let place : a .loop .at + 16 * a .loop .left ≡ 16 * count (s .args .entry .now) = a .loop .inv .0 .place in (
-      part-length 16 (a .loop .at) (a .loop .out) refl (omega (arith, a .loop .inv .0 .long)),
+      part-length 16 (a .loop .at) (a .loop .out) refl (omega (arith, a .loop .inv .0 .size)),
       ahead-fits (a .loop .left - 1) (omega arith) (omega arith) (c .before .following .ensures .0) (c .before .following .ensures .1),
     )
 
@@ -91,12 +90,12 @@ loop-again c =
     let bytes : Below 256 (s .args .body .now) = below-all (s .args .body .now) (λ j h. k .shared-slice-known3 .given j .fits) in
     let size : length (s .args .body .now) ≡ 16 * count (s .args .entry .now) = s .pre .1 .1 .0 in
     let h : 0 < a .loop .left = e .before .loop-test .taken in (
-      rw (x .exchange .ensures .written, e .recode .ensures, a .loop .inv .1 h) (chain-turn (eqb (s .args .mark) 1) (a .loop .chain) words bytes size h (a .loop .inv .0)),
+      rw (x .exchange .ensures .written, e .recode .ensures, a .loop .inv .1 h) (chain-turn (s .args .decrypting) (a .loop .chain) words bytes size h (a .loop .inv .0)),
       λ m. x .exchange .ensures .read ∙ ap (λ (n : ℕ). wordsOf 4 (drop n (s .args .body .now))) (f .following .ensures .0 (omega (arith, a .loop .inv .0 .place))),
     )
 
 same-length : tie.Need-same-length Inv-loop μ-loop
-same-length c = c .before .loop .inv .0 .long ∙ sym (c .before .before .before .before .before .before .before .before .before .before .pre .1 .1 .1)
+same-length c = c .before .loop .inv .0 .size ∙ sym (c .before .before .before .before .before .before .before .before .before .before .pre .1 .1 .1)
 
 returns-2 : tie.Need-returns-2 Inv-loop μ-loop
 returns-2 c = chain-end _ (c .before .loop .inv .0) (search needs)

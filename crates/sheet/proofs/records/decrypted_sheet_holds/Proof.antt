@@ -8,15 +8,15 @@ use lib.ListN.{drop}
 use Rattle.clefia_spec.specs.Words.{bytesOf, wordsOf, xors, Below}
 use Rattle.clefia_spec.specs.DigitLaws.{below-all}
 use Rattle.clefia_spec.specs.Block.{decryptWords}
-use Rattle.planbook_spec.specs.Book.{trial, recordHolds}
-use Rattle.form.specs.declared.entry.Sheet.{Sheet}
+use Rattle.planbook_spec.specs.Book.{recordHolds}
+use Rattle.form.specs.Entry.{sheetOf}
 use Rattle.sheet.specs.declared.chain.Step.{Step}
-use Rattle.sheet.specs.ChainLaws.{Opened, opened-start, opened-broken, opened-step, opened-end}
+use Rattle.sheet.specs.ChainLaws.{Decrypted, decrypted-start, decrypted-broken, decrypted-step, decrypted-end}
 use Rattle.sheet.proofs.records.decrypted_sheet_holds.Statement.{statement}
 use Rattle.sheet.proofs.records.decrypted_sheet_holds.Tie as tie
 
 abbrev Inv-loop : tie.InvT-loop
-Inv-loop words bytes w entry body sheet chain₀ left₀ at₀ chain left at = (sheet .trial ≡ trial entry) × Opened w entry body at left (chain .previous)
+Inv-loop words bytes w entry body sheet chain₀ left₀ at₀ chain left at = (sheet ≡ sheetOf entry) × Decrypted w entry body at left (chain .previous)
 
 abbrev μ-loop : tie.MeasureT-loop
 μ-loop words bytes w entry body sheet chain₀ left₀ at₀ chain left at = left
@@ -54,8 +54,8 @@ loop-holds c =
     let k : tie.After-shared-slice-known2 Inv-loop μ-loop = c .before .before .before in
     let s : tie.Start Inv-loop μ-loop = k .before .before in
     let r : c .before .read-sheet .result ≡ _ = c .before .read-sheet .ensures in (
-      ap (λ (x : Sheet). x .trial) r,
-      rw (r, c .new .ensures) (opened-start (s .args .w .now) (s .args .entry .now) (s .args .body .now) (below-all (s .args .entry .now) (λ j h. k .shared-slice-known2 .given j .fits)) (search needs)),
+      r,
+      rw (r, c .new .ensures) (decrypted-start (s .args .w .now) (s .args .entry .now) (s .args .body .now) (below-all (s .args .entry .now) (λ j h. k .shared-slice-known2 .given j .fits)) (search needs)),
     )
 
 add-end : tie.Need-add-end Inv-loop μ-loop
@@ -73,7 +73,7 @@ record-holds-requires c κs = search needs
 returns : tie.Need-returns Inv-loop μ-loop
 returns c =
     let a : tie.At-loop Inv-loop μ-loop = c .before .before .before .before .before .before in
-    opened-broken (a .loop .inv .1) (keys a) (bytes a) (start a .pre .1 .1) (search needs) (sym (tested (c .before)) ∙ not-true _ (c .if1 .taken))
+    decrypted-broken (a .loop .inv .1) (keys a) (bytes a) (start a .pre .1 .1) (search needs) (sym (tested (c .before)) ∙ not-true _ (c .if1 .taken))
 
 sub-left : tie.Need-sub-left Inv-loop μ-loop
 sub-left c = search needs
@@ -88,11 +88,11 @@ loop-again c =
     let a : tie.At-loop Inv-loop μ-loop = d .before .before .before in (
       a .loop .inv .0,
       rw (d .decrypt .ensures, d .before .load .ensures)
-          (opened-step (a .loop .inv .1) (keys a) (bytes a) (start a .pre .1 .1) (d .before .before .loop-test .taken) (sym (tested r) ∙ not-false _ (c .before .if1 .left))),
+          (decrypted-step (a .loop .inv .1) (keys a) (bytes a) (start a .pre .1 .1) (d .before .before .loop-test .taken) (sym (tested r) ∙ not-false _ (c .before .if1 .left))),
     )
 
 returns-2 : tie.Need-returns-2 Inv-loop μ-loop
-returns-2 c = opened-end (c .before .loop .inv .1) (search needs)
+returns-2 c = decrypted-end (c .before .loop .inv .1) (search needs)
 
 pub decrypted-sheet-holds-spec : {M : Type 1} → statement M
 decrypted-sheet-holds-spec =

@@ -1,0 +1,71 @@
+-- `book::check_book` meets its contract: the form, and then the records.
+use mathlib.Core.Path.{_≡_, sym, _∙_}
+use borrow.Author.Tests.{not-true, not-false}
+use borrow.Author.Needs.{needs}
+use Rattle.answer.specs.declared.Answer.the-variants.{Accepted}
+use Rattle.planbook_spec.specs.Outcome.{judged}
+use Rattle.form.specs.Form.{formAnswer}
+use Rattle.book.specs.Bodies.{markOf}
+use Rattle.book.specs.BookLaws.{form-stopped, form-given, by-records}
+use Rattle.book.proofs.check_book.Statement.{statement}
+use Rattle.book.proofs.check_book.Tie as tie
+
+abbrev start : tie.After-check-form → tie.Start
+start f = f .before .before .before .before
+
+formed : (f : tie.After-check-form) → f .check-form .result ≡ formAnswer (markOf (start f .args .decrypting)) (start f .args .book .now)
+formed f = rw (f .before .mark .ensures) at (f .check-form .ensures)
+
+answered : (k : tie.After-known-told) →
+    let s : tie.Start = start (k .before .before .before) in
+    Accepted (k .before .form .given .0 .0) ≡ formAnswer (markOf (s .args .decrypting)) (s .args .book .now)
+answered k = sym (k .before .form .given .1) ∙ formed (k .before .before .before)
+
+mark-requires : tie.Need-mark-requires
+mark-requires c κs = search needs
+
+check-form-requires : tie.Need-check-form-requires
+check-form-requires c κs = search needs
+
+enum-known-form : tie.Need-enum-known-form
+enum-known-form c = search needs
+
+enum-told : tie.Need-enum-told
+enum-told c = search needs
+
+returns : tie.Need-returns
+returns c =
+    let s : tie.Start = start (c .before .before) in
+    form-stopped (s .args .decrypting) (s .args .w .now) (s .args .book .now) (formed (c .before .before)) (c .enum-told .given .1)
+
+records-hold-requires : tie.Need-records-hold-requires
+records-hold-requires c κs =
+    let s : tie.Start = start (c .before .before .before) in
+    (s .pre, form-given (s .args .decrypting) (s .args .w .now) _ (answered c))
+
+returns-2 : tie.Need-returns-2
+unfolding judged
+returns-2 c =
+    let k : tie.After-known-told = c .before .before in
+    let s : tie.Start = start (k .before .before .before) in
+    by-records (s .args .decrypting) (s .args .w .now) (s .args .book .now) (answered k) (sym (c .before .records-hold .ensures) ∙ not-true _ (c .if1 .taken))
+
+returns-3 : tie.Need-returns-3
+unfolding judged
+returns-3 c =
+    let k : tie.After-known-told = c .before .before in
+    let s : tie.Start = start (k .before .before .before) in
+    by-records (s .args .decrypting) (s .args .w .now) (s .args .book .now) (answered k) (sym (c .before .records-hold .ensures) ∙ not-false _ (c .if1 .left))
+
+pub check-book-spec : {M : Type 1} → statement M
+check-book-spec =
+    tie.close
+    (tie.spec
+    mark-requires
+    check-form-requires
+    enum-known-form
+    enum-told
+    returns
+    records-hold-requires
+    returns-2
+    returns-3)

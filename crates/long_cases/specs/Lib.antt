@@ -1,0 +1,2 @@
+pub mod Ciphertexts
+pub mod Inverse
