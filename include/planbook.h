@@ -8,7 +8,7 @@
  * A clear book begins with 01 00, a sealed one with 02 00. Sealing encrypts every body with CLEFIA in CBC mode: each
  * sheet has a chain of its own, which begins at the start block (the field's word: IV) that stands in its contents
  * entry. Head and contents are copied, but for the first byte. A sealed book is as long as the clear one. The format is
- * written down whole in docs/FORMAT.md; the lengths are named below.
+ * written down whole in FORMAT.md, which is installed with this header; the lengths are named below.
  *
  * Six calls do the work: the constants of the key schedule, the expanded ("prepared") key, one block encrypted or
  * decrypted, one book encrypted ("sealed") or decrypted ("opened"). Every call but the first takes a "way", which is
@@ -264,6 +264,8 @@ static PLANBOOK_OWN_FRAME void planbook_wipe_stack(void)
 }
 
 #undef PLANBOOK_CAST
+#undef PLANBOOK_MUST_USE
+#undef PLANBOOK_OWN_FRAME
 
 #ifdef __cplusplus
 }

@@ -43,6 +43,7 @@ static void check_lengths(void)
     EXPECT(PLANBOOK_CLEAR, CLEAR_BOOK);
     EXPECT(PLANBOOK_SEALED, SEALED_BOOK);
     EXPECT(PLANBOOK_WIPE_STACK, 1);
+    EXPECT(PLANBOOK_STACK_BYTES, 16384); /* README and planbook.3 say so */
 }
 
 static void check_numbers(void)

@@ -3,7 +3,7 @@
  * then searched for the words of the key, of the expanded key and of the clear block or record: after planbook_wipe_stack
  * there must be none; without it there must be some, or this test could not fail.
  *
- *   stack
+ *   stack [SEED]
  */
 #define _XOPEN_SOURCE 600
 
