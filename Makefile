@@ -18,6 +18,7 @@ LIBDIR = $(PREFIX)/lib
 INCLUDEDIR = $(PREFIX)/include
 MANDIR = $(PREFIX)/share/man
 DOCDIR = $(PREFIX)/share/doc/planbook
+COMPLETIONDIR = $(PREFIX)/share/bash-completion/completions
 
 DEB := target/deb
 DEB_TREE := $(DEB)/planbook-$(VERSION)
@@ -55,7 +56,8 @@ bench: need-platform need-compiler $(PLANBOOK_LIB)
 
 # Each file that install makes; uninstall removes them.
 INSTALLED = "$(BINDIR)/planbook" "$(LIBDIR)/libplanbook.a" "$(LIBDIR)/pkgconfig/planbook.pc" "$(INCLUDEDIR)/planbook.h" \
-    "$(MANDIR)/man1/planbook.1" "$(MANDIR)/man3/planbook.3" "$(DOCDIR)/FORMAT.md" "$(DOCDIR)/CHANGELOG.md"
+    "$(MANDIR)/man1/planbook.1" "$(MANDIR)/man3/planbook.3" "$(DOCDIR)/FORMAT.md" "$(DOCDIR)/CHANGELOG.md" \
+    "$(COMPLETIONDIR)/planbook"
 
 install: need-platform need-compiler $(PLANBOOK_LIB) $(COMMAND)
 	@echo "Installing below $(DESTDIR)$(PREFIX)"
@@ -66,6 +68,7 @@ install: need-platform need-compiler $(PLANBOOK_LIB) $(COMMAND)
 	@install -D -m 644 docs/planbook.3 "$(DESTDIR)$(MANDIR)/man3/planbook.3"
 	@install -D -m 644 docs/FORMAT.md "$(DESTDIR)$(DOCDIR)/FORMAT.md"
 	@install -D -m 644 CHANGELOG.md "$(DESTDIR)$(DOCDIR)/CHANGELOG.md"
+	@[ ! -f cli/planbook.bash ] || install -D -m 644 cli/planbook.bash "$(DESTDIR)$(COMPLETIONDIR)/planbook"
 	@install -d -m 755 "$(DESTDIR)$(LIBDIR)/pkgconfig"
 	@printf '%s\n' 'prefix=$(PREFIX)' 'libdir=$(LIBDIR)' 'includedir=$(INCLUDEDIR)' '' \
 	    'Name: planbook' 'Description: Plan books sealed and opened with CLEFIA, proved' 'Version: $(VERSION)' \
