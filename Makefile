@@ -33,7 +33,7 @@ help:
 	@echo "make command   the command, $(COMMAND)"
 	@echo "make bench     measure the library beside plain C"
 	@echo "make install   library, header, command, pkg-config file and manual pages below PREFIX=$(PREFIX)"
-	@echo "make uninstall remove what make install put there"
+	@echo "make uninstall remove what make install put there, given the same variables"
 	@echo "make deb       two Debian packages in $(DEB)/"
 	@echo "make clean     remove target/"
 

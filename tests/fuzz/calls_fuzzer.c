@@ -7,7 +7,7 @@
  * Most bytes would be refused at the first look. So the bytes are a recipe: a case that cases.c makes, accepted or with
  * some checks made to fail, and then changes of single bytes and numbers; or they are the input itself.
  */
-#include "compare.h"
+#include "../compare.h"
 
 #include <string.h>
 
@@ -16,7 +16,7 @@
 #if defined(__clang__) && __clang_major__ >= 13
 #pragma clang attribute push(__attribute__((no_sanitize("coverage"))), apply_to = function)
 #endif
-#include "reference_clefia.c"
+#include "../reference_clefia.c"
 #if defined(__clang__) && __clang_major__ >= 13
 #pragma clang attribute pop
 #endif
