@@ -38,7 +38,11 @@ static const field clear_fields[] = {
     {39, 2, "record: column"},
     {41, 3, "record: reserved"},
 };
-enum { CLEAR_FIELDS = sizeof clear_fields / sizeof clear_fields[0], CONTENTS_FIELDS = 7, SEALED_FIELDS = CONTENTS_FIELDS + 1 };
+enum {
+    CLEAR_FIELDS = sizeof clear_fields / sizeof clear_fields[0],
+    CONTENTS_FIELDS = 7, /* of head and contents, which both books have */
+    SEALED_FIELDS = CONTENTS_FIELDS + 1
+};
 static const field sealed_record = {28, 16, "sealed record"};
 
 static FILE *page;
@@ -151,6 +155,6 @@ int main(int argc, char **argv)
     reference_expand_key(&expanded, key.bytes, key.len);
     reference_encrypt_block(&expanded, block.bytes, encrypted);
     expect_bytes("sealed record", sealed.bytes + 28, encrypted, REFERENCE_BLOCK);
-    printf("format: passed: the worked book, %d fields and both books of %d bytes\n", CLEAR_FIELDS + SEALED_FIELDS, BOOK_BYTES);
+    printf("format: passed: the worked book, %d fields and two times %d bytes\n", CLEAR_FIELDS + SEALED_FIELDS, BOOK_BYTES);
     return 0;
 }

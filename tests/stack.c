@@ -103,13 +103,13 @@ static void add_expanded_key(void)
     secret_count += 2 * expanded.rounds;
 }
 
-/* A book of two sheets. The first three words of all records are secrets; trials and entries are made such that no two of
- * these words are alike, and none is a small number that may stand on the stack for another reason. */
-static void make_book(void)
+/* A book of two sheets. The first three words of each record are secrets; trials and entries are made high, since small
+ * numbers may stand on the stack for another reason. */
+static size_t make_book(uint8_t *book)
 {
     static const book_shape shape = {2, {3, RECORDS - 3}};
-    uint8_t *entries = input + HEAD_LENGTH, *record = entries + 2 * ENTRY_LENGTH;
-    in.input_len = make_clear_book(&random_source, &shape, input);
+    uint8_t *entries = book + HEAD_LENGTH, *record = entries + 2 * ENTRY_LENGTH;
+    size_t len = make_clear_book(&random_source, &shape, book);
     reference_store_word(entries, 0x5b3c9d01);
     reference_store_word(entries + ENTRY_LENGTH, 0x6e1f8a27);
     for (uint32_t i = 0; i < RECORDS; i++, record += RECORD_LENGTH) {
@@ -117,26 +117,33 @@ static void make_book(void)
         reference_store_word(record + 4, 0xc8e17f35 - 0x01030507 * i);
         add_secrets(record, 12);
     }
+    return len;
 }
 
-static void make_input(void)
+static void make_block_input(void)
 {
-    static uint8_t clear[sizeof input];
+    uint8_t clear[REFERENCE_BLOCK];
     reference_key expanded;
-    in.input = input;
-    if (call_is_block(in.kind)) {
-        in.input_len = REFERENCE_BLOCK;
-        random_fill(&random_source, input, in.input_len);
-        add_secrets(input, in.input_len);
-    }
-    if (call_is_book(in.kind))
-        make_book();
-    if (in.kind == CALL_DECRYPT_BOOK) {
-        memcpy(clear, input, in.input_len);
-        reference_expand_key(&expanded, key, in.key_len);
-        reference_encrypt_bodies(&expanded, clear, in.input_len, input);
-        input[0] = SEALED_BOOK;
-    }
+    random_fill(&random_source, clear, sizeof clear);
+    add_secrets(clear, sizeof clear);
+    memcpy(input, clear, sizeof clear);
+    reference_expand_key(&expanded, key, in.key_len);
+    if (in.kind == CALL_DECRYPT_BLOCK)
+        reference_encrypt_block(&expanded, clear, input);
+    in.input_len = sizeof clear;
+}
+
+static void make_book_input(void)
+{
+    uint8_t clear[sizeof input];
+    reference_key expanded;
+    in.input_len = make_book(clear);
+    memcpy(input, clear, in.input_len);
+    if (in.kind == CALL_ENCRYPT_BOOK)
+        return;
+    reference_expand_key(&expanded, key, in.key_len);
+    reference_encrypt_bodies(&expanded, clear, in.input_len, input);
+    input[0] = SEALED_BOOK;
 }
 
 static void make_call(call_kind kind, uint64_t way, uint64_t key_len)
@@ -146,9 +153,13 @@ static void make_call(call_kind kind, uint64_t way, uint64_t key_len)
     in.way = way;
     in.key = key;
     in.key_len = key_len;
+    in.input = input;
     secret_count = 0;
     random_fill(&random_source, key, sizeof key);
-    make_input();
+    if (call_is_block(kind))
+        make_block_input();
+    if (call_is_book(kind))
+        make_book_input();
     in.out_len = reference_output_length(&in);
     if (kind == CALL_CONSTANTS)
         return;
@@ -205,7 +216,7 @@ int main(int argc, char **argv)
                 in.out_len--; /* check 4, which is made when the key is expanded already */
                 try_call(0);
             }
-    printf("stack: at most %zu bytes used by a call; at least %zu secret words left by each with a key, none after the wipe\n",
+    printf("stack: at most %zu bytes used by a call; at least %zu secret words left where there is a key, none after the wipe\n",
            deepest, least_left);
     printf("stack: passed\n");
     return 0;
