@@ -14,7 +14,7 @@ VERSION := $(shell sed -n 's/^\#define PLANBOOK_VERSION "\(.*\)"/\1/p' $(HEADER)
 PREFIX ?= /usr/local
 LIBDIR := $(DESTDIR)$(PREFIX)/lib
 
-.PHONY: help demo test lib command bench install clean need-kit need-compiler need-platform
+.PHONY: help demo test lib command bench bench-record install clean need-kit need-compiler need-platform
 .DELETE_ON_ERROR:
 
 help:
@@ -22,7 +22,7 @@ help:
 	@echo "make test      prove everything from nothing and run all tests"
 	@echo "make lib       the proved library, $(LIBRARY)"
 	@echo "make command   the command, $(COMMAND)"
-	@echo "make bench     measure the library beside plain C"
+	@echo "make bench     measure the library beside plain C, into target/bench/ (bench-record: into docs/)"
 	@echo "make install   library, header, command, pkg-config file and manual page below PREFIX=$(PREFIX)"
 	@echo "make clean     remove target/"
 
@@ -37,9 +37,9 @@ lib: need-platform $(PLANBOOK_LIB)
 
 command: need-platform need-compiler $(COMMAND)
 
-bench: need-platform need-compiler $(PLANBOOK_LIB)
+bench bench-record: need-platform need-compiler $(PLANBOOK_LIB)
 	@echo "Measuring: leave the machine alone meanwhile."
-	@bench/run
+	@bench/run $(if $(filter bench-record,$@),--record)
 
 install: need-platform need-compiler $(PLANBOOK_LIB) $(COMMAND)
 	@echo "Installing below $(DESTDIR)$(PREFIX)"
