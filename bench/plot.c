@@ -60,7 +60,7 @@ static void bars(struct panel *p, const char *name, const double *values, const 
 static void legend(const struct panel *p, const char *const *names, int count)
 {
     double x = LEFT;
-    for (int i = 0; i < count; i++, x += 210) {
+    for (int i = 0; i < count; i++, x += 225) {
         double y = p->top + CHART + 34;
         fprintf(p->file, "<rect x=\"%.1f\" y=\"%.1f\" width=\"12\" height=\"12\" fill=\"%s\"/>\n",
                 x, y, COLOURS[i]);
