@@ -23,7 +23,7 @@ COMPLETIONDIR = $(PREFIX)/share/bash-completion/completions
 DEB := target/deb
 DEB_TREE := $(DEB)/planbook-$(VERSION)
 
-.PHONY: help demo test check lib command bench install uninstall deb clean need-kit need-compiler need-platform need-dpkg
+.PHONY: help demo test check lib command bench bench-record install uninstall deb clean need-kit need-compiler need-platform need-dpkg
 .DELETE_ON_ERROR:
 
 help:
@@ -31,7 +31,7 @@ help:
 	@echo "make test      prove everything from nothing and run all tests; make check is the same"
 	@echo "make lib       the proved library, $(LIBRARY)"
 	@echo "make command   the command, $(COMMAND)"
-	@echo "make bench     measure the library beside plain C"
+	@echo "make bench     measure the library beside plain C, into target/bench/ (bench-record: into docs/)"
 	@echo "make install   library, header, command, pkg-config file and manual pages below PREFIX=$(PREFIX)"
 	@echo "make uninstall remove what make install put there, given the same variables"
 	@echo "make deb       two Debian packages in $(DEB)/"
@@ -50,9 +50,9 @@ lib: need-platform $(PLANBOOK_LIB)
 
 command: need-platform need-compiler $(COMMAND)
 
-bench: need-platform need-compiler $(PLANBOOK_LIB)
+bench bench-record: need-platform need-compiler $(PLANBOOK_LIB)
 	@echo "Measuring: leave the machine alone meanwhile."
-	@bench/run
+	@bench/run $(if $(filter bench-record,$@),--record)
 
 # Each file that install makes; uninstall removes them.
 INSTALLED = "$(BINDIR)/planbook" "$(LIBDIR)/libplanbook.a" "$(LIBDIR)/pkgconfig/planbook.pc" "$(INCLUDEDIR)/planbook.h" \
