@@ -51,6 +51,7 @@ void release_all(void)
         }
 }
 
+/* What was called before lies below this function on the stack, but for what an error has left in the middle. */
 static void wipe_at_exit(void)
 {
     release_all();

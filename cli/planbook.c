@@ -31,6 +31,5 @@ int main(int argc, char **argv)
     const struct verb *verb = read_arguments(verbs, VERBS, argv + 1, &given);
     if (verb != NULL)
         verb->run(&given);
-    planbook_wipe_stack(); /* here, where all that was called has returned; memory.c does it for an exit from below */
     return 0;
 }

@@ -31,6 +31,7 @@ test_install() {
     holds "the example is built from what is installed" $cc -Wall -Wextra -Werror examples/seal_book.c $flags -o "$work/seal_book"
     cd "$work" || exit 2
     unhex 000102030405060708090a0b0c0d0e0f >key
+    chmod 600 key
     "$planbook" seal --key key clear s
     ./seal_book <clear >t 2>err
     judge "the example" 0 "records sealed: 1" $?

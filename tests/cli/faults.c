@@ -5,6 +5,7 @@
  *   full          the disk is full after the first byte of a file
  *   signal:N      signal N comes while the file is written, and has only its temporary name
  *   race:F        someone else makes the file F at that moment
+ *   late-race:F   someone else makes the file F while the second file is written
  *   no-link       the file system has no links
  *   no-noreplace  the file system cannot rename without replacing
  *   no-rename:N   the Nth rename fails
@@ -14,7 +15,9 @@
  *   no-random     there are no random bytes
  *   count         random bytes are 1, 2, 3 .. and come one at a time
  *   digits        random bytes are 16 times the digit 7, and then as with count
+ *   mark          writing leaves 4 KiB of a5 a4 .. 96 on the stack, again and again
  *   scan          at the very end, the memory is looked through for the bytes that SCAN names in hexadecimal
+ *   early-scan    the same while the file is written
  */
 #define _GNU_SOURCE
 #include <dlfcn.h>
@@ -25,6 +28,7 @@
 #include <stdlib.h>
 #include <string.h>
 #include <sys/stat.h>
+#include <ucontext.h>
 #include <unistd.h>
 
 /* What stands after the kind of fault, up to the comma; null where FAULT does not name it. */
@@ -43,10 +47,19 @@ static const char *fault(const char *kind)
     return rest;
 }
 
+static void scan(void);
+
 static int failed(int why)
 {
     errno = why;
     return -1;
+}
+
+static __attribute__((noinline)) void leave_mark(void)
+{
+    volatile unsigned char marks[4096];
+    for (size_t i = 0; i < sizeof marks; i++)
+        marks[i] = (unsigned char)(0xa5 - i % 16);
 }
 
 ssize_t write(int fd, const void *bytes, size_t len)
@@ -55,20 +68,32 @@ ssize_t write(int fd, const void *bytes, size_t len)
     static int calls;
     if (real == NULL)
         *(void **)&real = dlsym(RTLD_NEXT, "write");
+    if (fault("mark") != NULL)
+        leave_mark();
     if (fd <= 2 || fault("full") == NULL)
         return real(fd, bytes, len);
     return calls++ == 0 ? real(fd, bytes, 1) : failed(ENOSPC);
 }
 
+static void make_empty(const char *name)
+{
+    close(open(name, O_CREAT | O_WRONLY | O_EXCL, 0600));
+}
+
 int fsync(int fd)
 {
+    static int files;
     struct stat file;
     if (fstat(fd, &file) == 0 && S_ISDIR(file.st_mode))
         return fault("directory:") != NULL ? failed(atoi(fault("directory:"))) : 0;
+    if (fault("early-scan") != NULL)
+        scan();
     if (fault("signal:") != NULL)
         raise(atoi(fault("signal:")));
     if (fault("race:") != NULL)
-        close(open(fault("race:"), O_CREAT | O_WRONLY | O_EXCL, 0600));
+        make_empty(fault("race:"));
+    if (++files == 2 && fault("late-race:") != NULL)
+        make_empty(fault("late-race:"));
     return 0;
 }
 
@@ -140,11 +165,11 @@ static int is_at(const unsigned char *at, const char *hex, size_t len)
     return 1;
 }
 
-/* Runs when the command's own functions for the exit have run. Says what was found, or how much was looked through. */
-__attribute__((destructor)) static void scan(void)
+/* Says whether something was found. */
+static void scan_here(void)
 {
     const char *hex = getenv("SCAN");
-    if (fault("scan") == NULL || hex == NULL)
+    if (hex == NULL)
         return;
     size_t len = strlen(hex) / 2, scanned = 0, found = 0;
     char line[512], access[8];
@@ -157,4 +182,24 @@ __attribute__((destructor)) static void scan(void)
             scanned += (size_t)((char *)to - (char *)from);
         }
     fprintf(stderr, scanned < 65536 ? "nothing scanned\n" : found > 0 ? "left behind %zu times\n" : "nothing left behind\n", found);
+}
+
+/* On a stack of its own, lest it overwrite what it looks for. */
+static void scan(void)
+{
+    static char stack[65536];
+    ucontext_t here, there;
+    getcontext(&there);
+    there.uc_stack.ss_sp = stack;
+    there.uc_stack.ss_size = sizeof stack;
+    there.uc_link = &here;
+    makecontext(&there, scan_here, 0);
+    swapcontext(&here, &there);
+}
+
+/* Runs when the command's own functions for the exit have run. */
+__attribute__((destructor)) static void scan_at_end(void)
+{
+    if (fault("scan") != NULL)
+        scan();
 }

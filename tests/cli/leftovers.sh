@@ -3,9 +3,9 @@
 # tests/cli/faults.c looks through all writable memory at the very end. That it can find something is seen in tests/cli/bugs,
 # where commands that do not wipe are caught by it.
 
-# The sample record as the command holds it in numbers, the first two round keys of key128 as RFC 6114 prints them
-# (f3e6cef9 8df75e38) in the order of bytes that the processor has, and the sample's line of a plan as text.
-numbers=2900000007000000020000000c00000003000000
+# Replicate, row and column of the sample record as the command holds them in numbers; the first two round keys of key128 as
+# RFC 6114 prints them (f3e6cef9 8df75e38), in the order of bytes that the processor has; the sample's line of a plan as text.
+numbers=020000000c00000003000000
 round_keys=f9cee6f3385ef78d
 line_text=34312c372c322c31322c33 # 41,7,2,12,3
 row_text=2020202020202020203720202020202020202032202020203132 # the row of show from the entry's column on
@@ -16,9 +16,10 @@ nothing_left() {
     wanted=$2
     export SCAN="$3"
     shift 3
-    with_fault scan,count "$@"
+    export LD_BIND_NOW=1 # the search for functions at their first call would overwrite parts of the stack
+    with_fault "${when:-scan},count" "$@"
     judge "$what after planbook $*" "$wanted" "nothing left behind" $?
-    unset SCAN
+    unset SCAN LD_BIND_NOW
     rm -f x y x.csv
 }
 
@@ -37,8 +38,21 @@ test_leftovers() {
         nothing_left "the clear record's numbers" 0 $numbers $verb
     done
     nothing_left "the row of the table" 0 $row_text show clear
+    nothing_left "the clear record's numbers" 0 $numbers show clear
     nothing_left "the key's digits" 0 "$(printf %s $key128 | od -An -v -tx1 | tr -d ' \n')" open --key-hex hex128 sealed128 x
     nothing_left "a new key" 0 0102030405060708090a0b0c0d0e0f10 keygen x
+    # whatever else was on the stack
+    when=scan,mark
+    for verb in "show clear" "open --key key128 sealed128 x"; do
+        nothing_left "a mark on the stack" 0 a5a4a3a2a1a09f9e9d9c9b9a99989796 $verb
+    done
+    # the key is gone as soon as it has been used
+    when=early-scan
+    for verb in "seal --key key128 clear x" "seal --key key128 plan.csv x" "open --key key128 sealed128 x" "show --key key128 sealed128 x"; do
+        nothing_left "the key, while the output is written," 0 $key128 $verb
+        nothing_left "round keys, while the output is written," 0 $round_keys $verb
+    done
+    when=scan
     # the same where the command ends early
     nothing_left "the key" 1 $key192 open --key key192 sealed128 x
     nothing_left "the key" 2 $key128 open --key key128 sealed128 missing/x

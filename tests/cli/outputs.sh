@@ -63,6 +63,9 @@ test_existing_outputs() {
 test_modes() {
     (umask 022 && "$planbook" seal --key key128 clear s) 2>err
     mode_is 644 s
+    (umask 027 && "$planbook" seal --force --key key128 clear t) 2>err
+    mode_is 640 t
+    rm -f t
     for mode in 600 640 664; do
         chmod $mode s
         expect 0 "" seal --force --key key128 clear s
@@ -108,11 +111,11 @@ test_no_links() {
         judge "$fault, the output appears meanwhile" 2 "cannot make x: File exists" $?
         same x empty
         rm -f x
-        with_fault $fault,race:y unpack --starts x clear y
-        judge "$fault, one of two outputs appears meanwhile" 2 "cannot make y: File exists" $?
-        same y empty
-        holds "$fault: the other is not made" [ ! -e x ]
-        rm -f y
+        with_fault $fault,late-race:x unpack --starts x clear y
+        judge "$fault, one of two outputs appears meanwhile" 2 "cannot make x: File exists" $?
+        same x empty
+        holds "$fault: the other is not made" [ ! -e y ]
+        rm -f x y
         with_fault $fault keygen k
         judge "$fault, a key" 0 "" $?
         mode_is 600 k
@@ -170,11 +173,15 @@ test_signals() {
     judge "the output appears meanwhile" 2 "cannot make x: File exists" $?
     same x empty
     rm -f x
-    with_fault race:y unpack --starts x clear y
-    judge "one of two outputs appears meanwhile" 2 "cannot make y: File exists" $?
-    same y empty
-    holds "the other does not" [ ! -e x ]
-    rm -f y
+    for other in x y; do # either of two
+        with_fault late-race:$other unpack --starts x clear y
+        judge "one of two outputs appears meanwhile" 2 "cannot make $other: File exists" $?
+        same $other empty
+        rm -f $other
+        holds "the other does not" [ ! -e x ]
+        holds "the other does not" [ ! -e y ]
+        rm -f x y
+    done
 }
 
 # Standard streams that are closed, or slow.
@@ -185,6 +192,12 @@ test_streams() {
     "$planbook" seal --key key128 clear x 2>&- >&- <&-
     holds "all standard streams closed" [ $? -eq 0 ]
     same x sealed128
+    rm -f x
+    cp precious x
+    chmod 644 x
+    "$planbook" open --force --key key128 sealed128 x 2>&-
+    holds "standard error closed" [ $? -eq 0 ]
+    same x clear # and no message in it
     rm -f x
     { head -c 20 clear; sleep 0.2; tail -c +21 clear; } | "$planbook" seal --key key128 >out 2>err
     judge "a book in two pieces" 0 "" $?

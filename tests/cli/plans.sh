@@ -3,25 +3,29 @@
 header=trial,entry,replicate,row,column
 good=41,7,2,12,3
 
-# reads_as_sample WHAT: the plan on standard input makes the sample book, without a word.
+# reads_as_sample WHAT FORMAT WORDS..: the plan that printf makes of them gives the sample book, without a word.
 reads_as_sample() {
-    cat >in
+    what=$1
+    shift
+    # shellcheck disable=SC2059
+    printf "$@" >in
     expect 0 "" pack --force --starts starts.csv - book
-    holds "$1" cmp -s book clear
+    holds "$what" cmp -s book clear
 }
 
 test_spreadsheets() {
-    printf '%s\r\n041,7,2,12,3' $header | reads_as_sample "CR LF, no end of the last line, a leading zero"
-    printf '\357\273\277%s\n%s\n' $header $good | reads_as_sample "a byte order mark"
-    printf 'trial;entry;replicate;row;column\r\n41;7;2;12;3\r\n' | reads_as_sample "semicolons"
-    printf 'trial\tentry\treplicate\trow\tcolumn\n41\t7\t2\t12\t3\n' | reads_as_sample "tabs"
-    printf '"trial","entry","replicate","row","column"\n"41","7","2","12","3"\n' | reads_as_sample "quotes"
-    printf '\357\273\277"trial";entry;replicate;row;"column"\n41;"7";2;12;"3"' | reads_as_sample "quotes here and there, and semicolons"
-    printf 'TRIAL,Entry,rePlicate,ROW,Column\n%s\n' $good | reads_as_sample "capitals"
-    printf 'column,row,replicate,entry,trial\n3,12,2,7,41\n' | reads_as_sample "another order of the columns"
-    printf '%s\n%s\n\n' $header $good | reads_as_sample "an empty line at the end"
-    printf '%s\n%s\n\n\r\n,,,,\n;\n' $header $good | sed '$d' | reads_as_sample "empty rows at the end"
-    printf '%s\n%s\n\n\n' $header $good | reads_as_sample "two empty lines at the end"
+    reads_as_sample "CR LF, no end of the last line, a leading zero" '%s\r\n041,7,2,12,3' $header
+    reads_as_sample "a carriage return at the very end" '%s\r\n41,7,2,12,3\r' $header
+    reads_as_sample "a byte order mark" '\357\273\277%s\n%s\n' $header $good
+    reads_as_sample "semicolons" 'trial;entry;replicate;row;column\r\n41;7;2;12;3\r\n'
+    reads_as_sample "tabs" 'trial\tentry\treplicate\trow\tcolumn\n41\t7\t2\t12\t3\n'
+    reads_as_sample "quotes" '"trial","entry","replicate","row","column"\n"41","7","2","12","3"\n'
+    reads_as_sample "quotes here and there, and semicolons" '\357\273\277"trial";entry;replicate;row;"column"\n41;"7";2;12;"3"'
+    reads_as_sample "capitals" 'TRIAL,Entry,rePlicate,ROW,Column\n%s\n' $good
+    reads_as_sample "another order of the columns" 'column,row,replicate,entry,trial\n3,12,2,7,41\n'
+    reads_as_sample "an empty line at the end" '%s\n%s\n\n' $header $good
+    reads_as_sample "two empty lines at the end" '%s\n%s\n\n\n' $header $good
+    reads_as_sample "empty rows at the end" '%s\n%s\n\n\r\n,,,,\n,\n' $header $good
     printf 'Start_Block;TRIAL\r\n"%s";41\r\n\r\n' "$(echo $start | tr a-f A-F)" >odd-starts.csv
     expect 0 "" pack --force --starts odd-starts.csv plan.csv book
     same book clear

@@ -72,6 +72,7 @@ test_names() {
 }
 
 test_keys() {
+    umask 077
     for length in 0 15 17 23 25 31 33 4000; do
         head -c $length /dev/zero >short
         expect_nothing x 1 "the key in short is $(echo $length | sed 's/^4/4,/') bytes long, not 16, 24 or 32 [check 1]" seal --key short clear x
@@ -122,6 +123,7 @@ test_keys() {
     expect 0 "warning: open-key may be read by others" open --key-hex open-key sealed128
     chmod 622 open-key
     expect 0 "" open --key-hex open-key sealed128
+    umask 022
 }
 
 # bad_clear CHECK SENTENCE HEX..: a clear book that sealing, show and unpack refuse.

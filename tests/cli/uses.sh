@@ -22,7 +22,8 @@ test_seal_and_open() {
     cp key128 in
     expect 0 "" open --force --key - sealed128 c
     same c clear
-    printf %s "$(cat hex192 | tr a-f A-F)" >upper
+    tr a-f A-F <hex192 | tr -d '\n' >upper
+    chmod 600 upper
     expect 0 "" open --key-hex upper -- sealed192
     same out clear
     (umask 022 && "$planbook" seal --key key128 clear s)
@@ -288,6 +289,7 @@ test_random_books() {
     for seed in $(seq 1 "${RANDOM_BOOKS:-25}"); do
         rm -rf random && mkdir random && cd random || exit 2
         "$built/random_book" "$seed"
+        chmod 600 key
         random_book >../err 2>&1
         status=$?
         cd "$work" || exit 2
