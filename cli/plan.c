@@ -251,10 +251,7 @@ static bool is_zero(const uint8_t *block)
     return memcmp(block, zero, sizeof zero) == 0;
 }
 
-/*
- * Two chains that begin at one start block show which of their first records are equal, and zero is what everybody would
- * take. Tells the first such fault of each trial.
- */
+/* A start block is to be used once under a key, and zeros are what everybody would take. Tells one such fault for each trial. */
 static void judge_start_blocks(struct bytes book, void tell(const char *name, uint32_t trial, uint32_t other), const char *name)
 {
     struct sheet sheets[PLANBOOK_MAX_SHEETS];
@@ -325,6 +322,8 @@ struct bytes pack_plan(struct bytes plan_text, const char *plan_name, const stru
             match_trials(&plan, &starts);
     }
     end_reports();
+    if (plan.count == 0)
+        warn("%s has a header and no plots", plan_name);
     struct bytes book = lay_out(&plan, starts_text != NULL ? &starts : NULL);
     uint32_t check = check_clear_book(book);
     if (check != PLANBOOK_ACCEPTED)

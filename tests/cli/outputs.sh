@@ -227,7 +227,9 @@ test_permissions() {
     mkdir -m 300 unlisted
     [ -z "$as_other" ] || chown 65534 unlisted
     $as_other ./other show clear unlisted/x 2>err
-    judge "a folder that may not be read, and so not be synchronised" 0 "" $?
+    status=$?
+    chmod 700 unlisted
+    judge "a folder that may not be read, and so not be synchronised" 0 "" $status
     chmod 600 key128
     cp clear unreadable
     chmod 0 unreadable

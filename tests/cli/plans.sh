@@ -29,6 +29,10 @@ test_spreadsheets() {
     printf 'Start_Block;TRIAL\r\n"%s";41\r\n\r\n' "$(echo $start | tr a-f A-F)" >odd-starts.csv
     expect 0 "" pack --force --starts odd-starts.csv plan.csv book
     same book clear
+    echo $header >in
+    expect_exactly 0 "planbook: warning: standard input has a header and no plots" pack --force - book
+    unhex 01000000 >none
+    same book none
     # columns that are not used
     cat >in <<'END'
 remark,trial,entry,a "quoted" name,replicate,row,column,
