@@ -210,10 +210,11 @@ static void report_limits(const struct lines *plan)
             report(PLANBOOK_CHECK_ENTRY, "%s: trial %u has %s plots, at most %s", plan->name, (unsigned)plan->sorted[i]->record.trial,
                    grouped(trial_lines(plan, i)), grouped(PLANBOOK_MAX_SHEET_RECORDS));
     if (trials > PLANBOOK_MAX_SHEETS)
-        report(PLANBOOK_CHECK_SHEETS, "%s: %s trials do not fit one book, which has at most %d: make two plans of it", plan->name,
+        report(PLANBOOK_CHECK_SHEETS, "%s: %s trials do not fit one book, which has at most %d; make two plans of it", plan->name,
                grouped(trials), PLANBOOK_MAX_SHEETS);
     if (book_bytes(plan) > PLANBOOK_MAX_BOOK_BYTES)
-        report(PLANBOOK_CHECK_BOOK_LENGTH, "%s: %s plots do not fit one book: with the contents of %s trials they take %s bytes, at most %s",
+        report(PLANBOOK_CHECK_BOOK_LENGTH,
+               "%s: %s plots do not fit one book: with the contents of %s trials they take %s bytes, at most %s; make two plans of it",
                plan->name, grouped(plan->count), grouped(trials), grouped(book_bytes(plan)), grouped(PLANBOOK_MAX_BOOK_BYTES));
 }
 

@@ -154,10 +154,10 @@ test_limits() {
     { echo $header; seq -f '%.0f,1,1,1,1' 1 64; } >damaged.csv
     expect 0 "" check damaged.csv
     { echo $header; seq -f '%.0f,1,1,1,1' 1 65; } >damaged.csv
-    expect_exactly 1 "planbook: damaged.csv: 65 trials do not fit one book, which has at most 64: make two plans of it [check 7]" check damaged.csv
+    expect_exactly 1 "planbook: damaged.csv: 65 trials do not fit one book, which has at most 64; make two plans of it [check 7]" check damaged.csv
     # 5,000 plots in five trials
     { echo $header; for trial in 1 2 3 4 5; do seq -f "$trial,7,1,$trial,%.0f" 1 1000; done; } >damaged.csv
-    expect_exactly 1 "planbook: damaged.csv: 5,000 plots do not fit one book: with the contents of 5 trials they take 80,124 bytes, at most 65,532 [check 5]" check damaged.csv
+    expect_exactly 1 "planbook: damaged.csv: 5,000 plots do not fit one book: with the contents of 5 trials they take 80,124 bytes, at most 65,532; make two plans of it [check 5]" check damaged.csv
     # the largest book, and one plot more
     { echo $header; for trial in 1 2 3 4; do seq -f "$trial,7,1,$trial,%.0f" 1 1000; done; seq -f "5,7,1,5,%.0f" 1 88; } >damaged.csv
     expect 0 "" seal --key key128 damaged.csv x
