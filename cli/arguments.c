@@ -172,22 +172,27 @@ static void expect_end(char **words)
         fail("%s is one word too many after %s", words[1], words[0]);
 }
 
+/* Words that are no verb of the table; answers whether the first was one of them. */
+static bool answer_about_command(const struct verb *verbs, size_t count, char **words)
+{
+    bool is_help = strcmp(words[0], "help") == 0, is_version = strcmp(words[0], "--version") == 0;
+    if (!is_help && !is_version && !asks_for_help(words[0]))
+        return false;
+    bool about_verb = is_help && words[1] != NULL;
+    expect_end(words + about_verb);
+    if (is_version)
+        print_version();
+    else if (about_verb)
+        help_with(find_verb(verbs, count, words[1]));
+    else
+        help(verbs, count);
+    return true;
+}
+
 const struct verb *read_arguments(const struct verb *verbs, size_t count, char **words, struct arguments *given)
 {
-    bool is_help = strcmp(words[0], "help") == 0;
-    if (is_help && words[1] != NULL) {
-        expect_end(words + 1);
-        help_with(find_verb(verbs, count, words[1]));
+    if (answer_about_command(verbs, count, words))
         return NULL;
-    }
-    if (is_help || asks_for_help(words[0]) || strcmp(words[0], "--version") == 0) {
-        expect_end(words);
-        if (words[0][0] == '-' && words[0][2] == 'v')
-            print_version();
-        else
-            help(verbs, count);
-        return NULL;
-    }
     const struct verb *verb = find_verb(verbs, count, words[0]);
     if (read_words(verb, words + 1, given))
         return verb;

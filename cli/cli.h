@@ -263,6 +263,9 @@ bool csv_next(struct csv *csv);
 /* A field of the current line, by the number of its column in csv_begin's list. */
 struct bytes csv_field(const struct csv *csv, size_t column);
 
+/* Whether a text says that it is UTF-16, which is not read. */
+bool is_utf16(struct bytes text);
+
 /* A field as a message shows it: in quotes, cut where it is long. One in a message. */
 const char *csv_found(struct bytes field);
 

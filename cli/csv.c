@@ -176,12 +176,17 @@ static void warn_of_others(const struct csv *csv, size_t count)
     }
 }
 
+bool is_utf16(struct bytes text)
+{
+    return text.len >= 2 && (memcmp(text.at, "\xff\xfe", 2) == 0 || memcmp(text.at, "\xfe\xff", 2) == 0);
+}
+
 /* What a text begins with that is no CSV of bytes. */
 static void refuse_other_kinds(struct bytes text, const char *name)
 {
     if (text.len >= 2 && (text.at[0] == PLANBOOK_CLEAR || text.at[0] == PLANBOOK_SEALED) && text.at[1] == 0)
         fail("%s is a %s book, and a plan (CSV) is needed here", name, text.at[0] == PLANBOOK_SEALED ? "sealed" : "clear");
-    if (text.len >= 2 && ((text.at[0] == 0xff && text.at[1] == 0xfe) || (text.at[0] == 0xfe && text.at[1] == 0xff)))
+    if (is_utf16(text))
         fail("%s is UTF-16 text: save it as CSV in UTF-8", name);
 }
 

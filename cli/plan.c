@@ -35,9 +35,15 @@ struct lines {
     struct bytes room[2];
 };
 
+#define TEXT_BEGINNING 16
+
+/* No control character stands near the beginning, but for those of lines. A book has one at the very first place. */
 bool is_plan(struct bytes input)
 {
-    return input.len > 0 && (input.at[0] >= ' ' || input.at[0] == '\t' || input.at[0] == '\r' || input.at[0] == '\n');
+    for (size_t i = 0; i < input.len && i < TEXT_BEGINNING; i++)
+        if (input.at[i] < ' ' && memchr("\t\r\n", input.at[i], 3) == NULL)
+            return is_utf16(input); /* which the reader refuses by its name */
+    return input.len > 0;
 }
 
 /* Reading lines */

@@ -134,6 +134,9 @@ test_headers() {
     expect_nothing x 2 'damaged.csv, line 1: there are more than 256 columns' pack damaged.csv x
     printf '\377\376t\0r\0' >damaged.csv
     expect_nothing x 2 'damaged.csv is UTF-16 text: save it as CSV in UTF-8' pack damaged.csv x
+    expect_nothing x 2 'damaged.csv is UTF-16 text: save it as CSV in UTF-8' seal --key key128 damaged.csv x
+    printf '\376\377\0t\0r' >damaged.csv
+    expect_nothing x 2 'damaged.csv is UTF-16 text: save it as CSV in UTF-8' seal --key key128 damaged.csv x
     expect_nothing x 2 "empty, line 1: the file is empty" pack empty x
     expect_nothing x 2 "clear is a clear book, and a plan (CSV) is needed here" pack clear x
     expect_nothing x 2 "sealed128 is a sealed book, and a plan (CSV) is needed here" pack sealed128 x

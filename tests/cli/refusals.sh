@@ -181,6 +181,8 @@ test_books() {
     expect_exactly 1 "planbook: clear is a clear book, and a sealed one is needed here [check 6]" show --key key128 clear x
     expect_exactly 1 "planbook: plan.csv is text, and a plan book is needed here [check 6]" show plan.csv x
     expect_exactly 1 "planbook: plan.csv is text, and a plan book is needed here [check 6]" open --key key128 plan.csv x
+    bad_clear 6 " is no clear plan book: it begins with 41 42 and not with 01 00" 41424344 0a000000
+    bad_sealed 6 " is no sealed plan book: it begins with ff d8 and not with 02 00" ffd8ffe0 00104a46
     for verb in "seal --key key128" "open --key key128" show labels unpack; do
         expect_nothing x 1 "/dev/zero is longer than a plan book can be, which is 65,532 bytes [check 5]" $verb /dev/zero x
     done
