@@ -30,12 +30,12 @@
 
 #include "planbook.h"
 
-/* For a header that has no planbook_wipe_stack yet: zeros over the stack below the caller, where a call left its words. */
+/* For a header that has no planbook_wipe_stack: zeros over the stack below the caller, where a call has left its words. */
 #ifndef PLANBOOK_WIPE_STACK
 #define PLANBOOK_WIPE_STACK 1
 static __attribute__((__noinline__, __unused__, __no_sanitize_address__)) void planbook_wipe_stack(void)
 {
-    volatile uint64_t below[32768 / 8];
+    volatile uint64_t below[16384 / 8];
     for (size_t i = 0; i < sizeof below / sizeof below[0]; i++)
         below[i] = 0;
 }
