@@ -11,19 +11,30 @@ STANDARD := -std=c99 -pedantic -Wall -Wextra
 HEADER := include/planbook.h
 VERSION := $(shell sed -n 's/^\#define PLANBOOK_VERSION "\(.*\)"/\1/p' $(HEADER))
 
+# Where things go; DESTDIR is put before each. These may hold spaces.
 PREFIX ?= /usr/local
-LIBDIR := $(DESTDIR)$(PREFIX)/lib
+BINDIR = $(PREFIX)/bin
+LIBDIR = $(PREFIX)/lib
+INCLUDEDIR = $(PREFIX)/include
+MANDIR = $(PREFIX)/share/man
+DOCDIR = $(PREFIX)/share/doc/planbook
+COMPLETIONDIR = $(PREFIX)/share/bash-completion/completions
 
-.PHONY: help demo test lib command bench install clean need-kit need-compiler need-platform
+DEB := target/deb
+DEB_TREE := $(DEB)/planbook-$(VERSION)
+
+.PHONY: help demo test check lib command bench bench-record install uninstall deb clean need-kit need-compiler need-platform need-dpkg
 .DELETE_ON_ERROR:
 
 help:
 	@echo "make demo      build what is missing, then seal, label, open and show the plan in examples/"
-	@echo "make test      prove everything from nothing and run all tests"
+	@echo "make test      prove everything from nothing and run all tests; make check is the same"
 	@echo "make lib       the proved library, $(LIBRARY)"
 	@echo "make command   the command, $(COMMAND)"
-	@echo "make bench     measure the library beside plain C"
-	@echo "make install   library, header, command, pkg-config file and manual page below PREFIX=$(PREFIX)"
+	@echo "make bench     measure the library beside plain C, into target/bench/ (bench-record: into docs/)"
+	@echo "make install   library, header, command, pkg-config file and manual pages below PREFIX=$(PREFIX)"
+	@echo "make uninstall remove what make install put there, given the same variables"
+	@echo "make deb       two Debian packages in $(DEB)/"
 	@echo "make clean     remove target/"
 
 demo: need-platform need-compiler $(COMMAND) $(EXAMPLE)
@@ -33,24 +44,51 @@ test: need-platform need-kit need-compiler
 	@echo "Proving everything from nothing, then the tests in C: this takes many minutes."
 	@bash .ci/run
 
+check: test
+
 lib: need-platform $(PLANBOOK_LIB)
 
 command: need-platform need-compiler $(COMMAND)
 
-bench: need-platform need-compiler $(PLANBOOK_LIB)
+bench bench-record: need-platform need-compiler $(PLANBOOK_LIB)
 	@echo "Measuring: leave the machine alone meanwhile."
-	@bench/run
+	@bench/run $(if $(filter bench-record,$@),--record)
+
+# Each file that install makes; uninstall removes them.
+INSTALLED = "$(BINDIR)/planbook" "$(LIBDIR)/libplanbook.a" "$(LIBDIR)/pkgconfig/planbook.pc" "$(INCLUDEDIR)/planbook.h" \
+    "$(MANDIR)/man1/planbook.1" "$(MANDIR)/man3/planbook.3" "$(DOCDIR)/FORMAT.md" "$(DOCDIR)/CHANGELOG.md" \
+    "$(COMPLETIONDIR)/planbook"
 
 install: need-platform need-compiler $(PLANBOOK_LIB) $(COMMAND)
 	@echo "Installing below $(DESTDIR)$(PREFIX)"
-	@mkdir -p $(LIBDIR)/pkgconfig $(addprefix $(DESTDIR)$(PREFIX)/,bin include share/man/man1)
-	@install -m 644 $(PLANBOOK_LIB) $(LIBDIR)/libplanbook.a
-	@install -m 644 $(HEADER) $(DESTDIR)$(PREFIX)/include/planbook.h
-	@install -m 755 $(COMMAND) $(DESTDIR)$(PREFIX)/bin/planbook
-	@install -m 644 cli/planbook.1 $(DESTDIR)$(PREFIX)/share/man/man1/planbook.1
-	@printf '%s\n' 'prefix=$(PREFIX)' 'libdir=$${prefix}/lib' 'includedir=$${prefix}/include' '' \
+	@install -D -m 755 $(COMMAND) "$(DESTDIR)$(BINDIR)/planbook"
+	@install -D -m 644 $(PLANBOOK_LIB) "$(DESTDIR)$(LIBDIR)/libplanbook.a"
+	@install -D -m 644 $(HEADER) "$(DESTDIR)$(INCLUDEDIR)/planbook.h"
+	@install -D -m 644 cli/planbook.1 "$(DESTDIR)$(MANDIR)/man1/planbook.1"
+	@install -D -m 644 docs/planbook.3 "$(DESTDIR)$(MANDIR)/man3/planbook.3"
+	@install -D -m 644 docs/FORMAT.md "$(DESTDIR)$(DOCDIR)/FORMAT.md"
+	@install -D -m 644 CHANGELOG.md "$(DESTDIR)$(DOCDIR)/CHANGELOG.md"
+	@[ ! -f cli/planbook.bash ] || install -D -m 644 cli/planbook.bash "$(DESTDIR)$(COMPLETIONDIR)/planbook"
+	@install -d -m 755 "$(DESTDIR)$(LIBDIR)/pkgconfig"
+	@printf '%s\n' 'prefix=$(PREFIX)' 'libdir=$(LIBDIR)' 'includedir=$(INCLUDEDIR)' '' \
 	    'Name: planbook' 'Description: Plan books sealed and opened with CLEFIA, proved' 'Version: $(VERSION)' \
-	    'Libs: -L$${libdir} -lplanbook' 'Cflags: -I$${includedir}' >$(LIBDIR)/pkgconfig/planbook.pc
+	    'Libs: -L"$${libdir}" -lplanbook' 'Cflags: -I"$${includedir}"' | \
+	    sed '2,3s|=$(PREFIX)/|=$${prefix}/|' >"$(DESTDIR)$(LIBDIR)/pkgconfig/planbook.pc"
+
+uninstall:
+	@echo "Removing planbook below $(DESTDIR)$(PREFIX)"
+	@for file in $(INSTALLED); do rm -f "$(DESTDIR)$$file"; done
+	@[ ! -d "$(DESTDIR)$(DOCDIR)" ] || rmdir --ignore-fail-on-non-empty "$(DESTDIR)$(DOCDIR)"
+
+# The packages are built in a copy of the tree that has the library but not the crates: nothing is proved again.
+deb: need-platform need-compiler need-dpkg $(PLANBOOK_LIB)
+	@echo "Building the Debian packages in $(DEB)"
+	@rm -rf $(DEB) && mkdir -p $(DEB_TREE)/$(dir $(LIBRARY))
+	@cp -R CHANGELOG.md Makefile README.md cli debian docs examples include $(DEB_TREE)
+	@cp $(PLANBOOK_LIB) $(DEB_TREE)/$(LIBRARY)
+	@cd $(DEB_TREE) && env -u MAKEFLAGS -u MAKELEVEL -u PLANBOOK_LIB dpkg-buildpackage -b -us -uc -d >../log 2>&1 || \
+	    { cat ../log; exit 1; }
+	@ls $(DEB)/*.deb
 
 clean:
 	rm -rf target
@@ -64,18 +102,21 @@ $(LIBRARY): $(wildcard crates.txt) $(shell find crates -type f 2>/dev/null)
 $(COMMAND): $(wildcard cli/*.c cli/*.h) $(HEADER) $(PLANBOOK_LIB)
 	@echo "Building $@"
 	@mkdir -p $(@D)
-	@$(CC) $(STANDARD) $(CFLAGS) -Iinclude $(wildcard cli/*.c) $(PLANBOOK_LIB) $(LDFLAGS) -o $@
+	@$(CC) $(STANDARD) $(CPPFLAGS) $(CFLAGS) -Iinclude $(wildcard cli/*.c) $(PLANBOOK_LIB) $(LDFLAGS) -o $@
 
 $(EXAMPLE): examples/seal_book.c $(HEADER) $(PLANBOOK_LIB)
 	@echo "Building $@"
 	@mkdir -p $(@D)
-	@$(CC) $(STANDARD) $(CFLAGS) -Iinclude examples/seal_book.c $(PLANBOOK_LIB) $(LDFLAGS) -o $@
+	@$(CC) $(STANDARD) $(CPPFLAGS) $(CFLAGS) -Iinclude examples/seal_book.c $(PLANBOOK_LIB) $(LDFLAGS) -o $@
 
 need-kit:
 	@command -v rt >/dev/null || { echo "make: the Rattle kit is missing: its command rt is not in PATH" >&2; exit 2; }
 
 need-compiler:
 	@command -v $(firstword $(CC)) >/dev/null || { echo "make: no C compiler: $(firstword $(CC)) is not in PATH" >&2; exit 2; }
+
+need-dpkg:
+	@command -v dpkg-buildpackage >/dev/null || { echo "make: dpkg-buildpackage is not in PATH; Debian has it in dpkg-dev" >&2; exit 2; }
 
 need-platform:
 	@[ "$$(uname -s) $$(uname -m)" = "Linux x86_64" ] || { echo "make: the library is for x86-64 Linux, and this is $$(uname -s) $$(uname -m)" >&2; exit 2; }

@@ -5,16 +5,25 @@
  * measurement that the bound below is taken from.
  */
 #define _GNU_SOURCE
-#include "bench.h"
+#include "core.h"
 
 #include <math.h>
 #include <sched.h>
+#include <stdint.h>
 #include <stdio.h>
+#include <time.h>
 
 enum { ROUNDS = 20000, FIRST_LOOKS = 10000 };
 static const double SHARED_ABOVE = 1.35;
 
 static double quietest_ns = INFINITY;
+
+double now_ns(void)
+{
+    struct timespec t;
+    clock_gettime(CLOCK_THREAD_CPUTIME_ID, &t);
+    return 1e9 * (double)t.tv_sec + (double)t.tv_nsec;
+}
 
 static double look(void)
 {

@@ -1,6 +1,10 @@
 /*
- * Plan books in plain C: the opponent that bench.c times the library against.
- * It is written to be as fast as the same three algorithms allow at -O3.
+ * Plan books in plain C: the opponent that the library is timed against,
+ * written to be fast at -O3. Both sides are held to the scope's algorithm for
+ * ways 1 and 3, each byte's substitution and products by themselves, because
+ * the limits are about what a proved program costs beside C and not about
+ * another algorithm: four bytes doubled in one word are faster (packed.h;
+ * docs/BENCH.md has both).
  *
  * Where the cipher is worked out, the way is always a constant: everything that
  * depends on it is inlined into one copy for each way, so that no test of the
@@ -17,6 +21,7 @@ enum { BYTE_TABLES = 1, WORD_TABLES = 2, BY_RULES = 3 };
 enum { BLOCK = 16, HEAD = 4, ENTRY = 24, IV_AT = 8 };
 enum { MOST_BYTES = 65532, MOST_SHEETS = 64, MOST_RECORDS = 1024 };
 enum { CLEAR = 1, SEALED = 2 };
+enum { ABREAST = 4 };
 
 /*
  * Words, the first byte highest, on a machine that has it lowest. Shifts say the
@@ -63,37 +68,7 @@ INLINE struct quad xor_quads(struct quad s, struct quad t)
     return (struct quad){s.a ^ t.a, s.b ^ t.b, s.c ^ t.c, s.d ^ t.d};
 }
 
-/*
- * GF(2^8) modulo z^8+z^4+z^3+z^2+1. The bit that leaves x is the one 11d clears,
- * so no mask is needed.
- */
-
-INLINE uint32_t twice(uint32_t x)
-{
-    return x << 1 ^ (x >> 7) * 0x11d;
-}
-
-/* x times m by doublings, through the eight bits of m. */
-INLINE uint32_t product(uint32_t x, uint32_t m)
-{
-    uint32_t sum = 0;
-    for (int i = 0; i < 8; i++) {
-        sum ^= x & -(m >> i & 1);
-        x = twice(x);
-    }
-    return sum;
-}
-
-/* S0 and S1 worked out from the rules. */
-
-/* A byte through a matrix over GF(2), given by the images of bits 80, 40, .. 01. */
-INLINE uint32_t linear(uint32_t x, const uint8_t image[8])
-{
-    uint32_t sum = 0;
-    for (int i = 0; i < 8; i++)
-        sum ^= image[i] & -(x >> (7 - i) & 1);
-    return sum;
-}
+/* S0 worked out from the rules. */
 
 /* Doubling in GF(2^4) modulo z^4+z+1. */
 INLINE uint32_t twice4(uint32_t x)
@@ -108,58 +83,19 @@ INLINE uint32_t s0_by_rules(uint32_t x)
     return (uint32_t)NIBBLE_BOXES[2][t0 ^ twice4(t1)] << 4 | NIBBLE_BOXES[3][twice4(t0) ^ t1];
 }
 
-/*
- * x^254 as x^16 times (x^17)^14. Raising to 16 is linear. x^17 lies in the
- * subfield of sixteen elements, which differ in their low four bits, so its
- * 14th power is read from sixteen entries: two products instead of four.
- */
-INLINE uint32_t inverse(uint32_t x)
-{
-    static const uint8_t power16[8] = {0x81, 0xd9, 0xfd, 0x5f, 0x46, 0x9d, 0x4c, 0x01};
-    static const uint8_t power14[16] = {
-        0x00, 0x01, 0x44, 0x4f, 0x92, 0x4e, 0xd7, 0xd6,
-        0x0b, 0xdc, 0xdd, 0x98, 0x99, 0x0a, 0x45, 0x93,
-    };
-    uint32_t x16 = linear(x, power16);
-    return product(x16, power14[product(x, x16) & 15]);
-}
-
-static uint32_t s1_by_rules(uint32_t x)
-{
-    static const uint8_t f[8] = {0x01, 0x4e, 0x0a, 0xc4, 0x84, 0x1c, 0x10, 0x69};
-    static const uint8_t g[8] = {0x02, 0x61, 0x18, 0x2a, 0xa0, 0x01, 0x84, 0x40};
-    return linear(inverse(linear(x, f) ^ 0x1e), g) ^ 0x69;
-}
+/* What ways 1 and 3 do with the four bytes of a word: substituted() and mixed(). */
+#ifdef PACKED
+#include "packed.h"
+#else
+#include "byte_by_byte.h"
+#endif
 
 /* F0 and F1. */
 
-INLINE uint32_t s0(int way, uint32_t x)
-{
-    return way == BYTE_TABLES ? S0_TABLE[x] : s0_by_rules(x);
-}
-
-INLINE uint32_t s1(int way, uint32_t x)
-{
-    return way == BYTE_TABLES ? S1_TABLE[x] : s1_by_rules(x);
-}
-
-/* One row of a matrix times four substituted bytes. */
-INLINE uint32_t row(struct quad s, uint32_t m0, uint32_t m1, uint32_t m2, uint32_t m3)
-{
-    return product(s.a, m0) ^ product(s.b, m1) ^ product(s.c, m2) ^ product(s.d, m3);
-}
-
-/* The matrix with entry m(i ^ j) at row i, column j, times four substituted bytes. */
-INLINE uint32_t mixed(struct quad s, uint32_t m0, uint32_t m1, uint32_t m2, uint32_t m3)
-{
-    return row(s, m0, m1, m2, m3) << 24 | row(s, m1, m0, m3, m2) << 16
-         | row(s, m2, m3, m0, m1) << 8 | row(s, m3, m2, m1, m0);
-}
-
 INLINE uint32_t look_up(const uint32_t tables[4][256], uint32_t x)
 {
-    return tables[0][x >> 24] ^ tables[1][x >> 16 & 0xff]
-         ^ tables[2][x >> 8 & 0xff] ^ tables[3][x & 0xff];
+    return tables[3][(uint8_t)x] ^ tables[2][(uint8_t)(x >> 8)]
+         ^ tables[1][(uint8_t)(x >> 16)] ^ tables[0][x >> 24];
 }
 
 INLINE uint32_t f0(int way, uint32_t key, uint32_t x)
@@ -167,9 +103,7 @@ INLINE uint32_t f0(int way, uint32_t key, uint32_t x)
     x ^= key;
     if (way == WORD_TABLES)
         return look_up(F0_TABLES, x);
-    struct quad s = {s0(way, x >> 24), s1(way, x >> 16 & 0xff),
-                     s0(way, x >> 8 & 0xff), s1(way, x & 0xff)};
-    return mixed(s, 1, 2, 4, 6);
+    return mixed(substituted(way, 0, x), 1, 2, 4, 6);
 }
 
 INLINE uint32_t f1(int way, uint32_t key, uint32_t x)
@@ -177,9 +111,7 @@ INLINE uint32_t f1(int way, uint32_t key, uint32_t x)
     x ^= key;
     if (way == WORD_TABLES)
         return look_up(F1_TABLES, x);
-    struct quad s = {s1(way, x >> 24), s0(way, x >> 16 & 0xff),
-                     s1(way, x >> 8 & 0xff), s0(way, x & 0xff)};
-    return mixed(s, 1, 8, 2, 10);
+    return mixed(substituted(way, 1, x), 1, 8, 2, 10);
 }
 
 /*
@@ -201,19 +133,40 @@ INLINE struct quad network4(int way, const uint32_t *keys, int rounds, struct qu
     return (struct quad){t.d, t.a, t.b, t.c};
 }
 
-/* Backward, over one or two blocks abreast: two fill the time that one waits for the tables. */
-INLINE void network4_back(int way, const uint32_t *keys, int rounds, struct quad *t, int lanes)
+/* Two rounds backward. */
+INLINE void two_back(int way, const uint32_t *at, struct quad *t)
+{
+    t->b ^= f0(way, at[-2], t->a);
+    t->d ^= f1(way, at[-1], t->c);
+    t->a ^= f0(way, at[-4], t->d);
+    t->c ^= f1(way, at[-3], t->b);
+    *t = (struct quad){t->c, t->d, t->a, t->b};
+}
+
+INLINE void network4_back(int way, const uint32_t *keys, int rounds, struct quad *t)
 {
     for (const uint32_t *at = keys + 2 * rounds; at > keys; at -= 4)
-        for (int i = 0; i < lanes; i++) {
-            t[i].b ^= f0(way, at[-2], t[i].a);
-            t[i].d ^= f1(way, at[-1], t[i].c);
-            t[i].a ^= f0(way, at[-4], t[i].d);
-            t[i].c ^= f1(way, at[-3], t[i].b);
-            t[i] = (struct quad){t[i].c, t[i].d, t[i].a, t[i].b};
-        }
-    for (int i = 0; i < lanes; i++)
-        t[i] = (struct quad){t[i].b, t[i].c, t[i].d, t[i].a};
+        two_back(way, at, t);
+    *t = (struct quad){t->b, t->c, t->d, t->a};
+}
+
+/*
+ * Four blocks through the same rounds: they fill the time that one waits for the
+ * tables. Each has a name, since gcc keeps an array of them in memory.
+ */
+INLINE void network4_back_abreast(int way, const uint32_t *keys, int rounds, struct quad t[ABREAST])
+{
+    struct quad t0 = t[0], t1 = t[1], t2 = t[2], t3 = t[3];
+    for (const uint32_t *at = keys + 2 * rounds; at > keys; at -= 4) {
+        two_back(way, at, &t0);
+        two_back(way, at, &t1);
+        two_back(way, at, &t2);
+        two_back(way, at, &t3);
+    }
+    t[0] = (struct quad){t0.b, t0.c, t0.d, t0.a};
+    t[1] = (struct quad){t1.b, t1.c, t1.d, t1.a};
+    t[2] = (struct quad){t2.b, t2.c, t2.d, t2.a};
+    t[3] = (struct quad){t3.b, t3.c, t3.d, t3.a};
 }
 
 /* Ten rounds over eight branches, in place. */
@@ -334,6 +287,7 @@ INLINE struct quad encrypt(int way, const struct schedule *s, struct quad p)
     return p;
 }
 
+/* One block, or as many as go abreast. */
 INLINE void decrypt(int way, const struct schedule *s, struct quad *c, int lanes)
 {
     const uint32_t *w = s->words;
@@ -341,7 +295,10 @@ INLINE void decrypt(int way, const struct schedule *s, struct quad *c, int lanes
         c[i].b ^= w[2];
         c[i].d ^= w[3];
     }
-    network4_back(way, w + 4, s->rounds, c, lanes);
+    if (lanes == ABREAST)
+        network4_back_abreast(way, w + 4, s->rounds, c);
+    else
+        network4_back(way, w + 4, s->rounds, c);
     for (int i = 0; i < lanes; i++) {
         c[i].b ^= w[0];
         c[i].d ^= w[1];
@@ -362,7 +319,7 @@ INLINE void encrypt_chain(int way, const struct schedule *s, const uint8_t *iv,
 INLINE struct quad decrypt_next(int way, const struct schedule *s, struct quad chain,
                                 const uint8_t *in, uint8_t *out, int lanes)
 {
-    struct quad t[2];
+    struct quad t[ABREAST];
     for (int i = 0; i < lanes; i++)
         t[i] = load_quad(in + BLOCK * i);
     decrypt(way, s, t, lanes);
@@ -377,10 +334,10 @@ INLINE void decrypt_chain(int way, const struct schedule *s, const uint8_t *iv,
                           const uint8_t *in, uint8_t *out, size_t blocks)
 {
     struct quad chain = load_quad(iv);
-    for (; blocks >= 2; blocks -= 2, in += 2 * BLOCK, out += 2 * BLOCK)
-        chain = decrypt_next(way, s, chain, in, out, 2);
-    if (blocks == 1)
-        decrypt_next(way, s, chain, in, out, 1);
+    for (; blocks >= ABREAST; blocks -= ABREAST, in += ABREAST * BLOCK, out += ABREAST * BLOCK)
+        chain = decrypt_next(way, s, chain, in, out, ABREAST);
+    for (; blocks > 0; blocks--, in += BLOCK, out += BLOCK)
+        chain = decrypt_next(way, s, chain, in, out, 1);
 }
 
 /* One copy of each for each way, picked once a call or a sheet. */

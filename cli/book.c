@@ -1,33 +1,10 @@
 /*
- * A book's parts. Whether a book is in order is decided by the library alone: these functions read only books that it has
- * accepted, so they check nothing, and they write books for it to accept or refuse.
+ * A book's parts. Whether a book is in order is decided by the library alone: these functions read only what it has accepted
+ * so far, so they check nothing, and they write books for it to accept or refuse.
  */
 #include "cli.h"
 
-#include <stdlib.h>
 #include <string.h>
-
-/* Checks 5 to 10 do not depend on the key, and for a clear book 11 does not either, so any key serves. */
-static uint32_t check_by(book_call *call, struct bytes book)
-{
-    static const uint8_t any_key[PLANBOOK_KEY128_BYTES] = {0};
-    struct bytes dropped = new_bytes(book.len);
-    uint64_t answer = call(any_key, sizeof any_key, PLANBOOK_WAY_WORD_TABLES, book.at, book.len, dropped.at, dropped.len);
-    free(dropped.at);
-    return planbook_check(answer);
-}
-
-uint32_t check_clear_book(struct bytes book)
-{
-    return check_by(planbook_encrypt_book, book);
-}
-
-/* Check 11 comes last and is about the key here: a book that gets so far has passed all that can be seen without one. */
-uint32_t check_sealed_book(struct bytes book)
-{
-    uint32_t check = check_by(planbook_decrypt_book, book);
-    return check == PLANBOOK_CHECK_RECORD ? PLANBOOK_ACCEPTED : check;
-}
 
 static uint32_t get_16(const uint8_t *at)
 {
@@ -59,30 +36,56 @@ void put_head(uint8_t *at, size_t sheets)
     put_16(at + 2, (uint32_t)sheets);
 }
 
+size_t sheet_count(struct bytes book)
+{
+    return get_16(book.at + 2);
+}
+
 /* Contents entry: trial in four bytes, record count in two, two zero bytes, start block. */
-void put_entry(uint8_t *at, uint32_t trial, size_t count, const uint8_t *start_block)
+void put_entry(uint8_t *at, uint32_t trial, size_t count)
 {
     put_32(at, trial);
     put_16(at + 4, (uint32_t)count);
     put_16(at + 6, 0);
-    memcpy(at + 8, start_block, PLANBOOK_BLOCK_BYTES);
+}
+
+static uint8_t *entry_of(struct bytes book, size_t sheet)
+{
+    return book.at + PLANBOOK_HEAD_BYTES + PLANBOOK_ENTRY_BYTES * sheet;
+}
+
+uint8_t *start_block_of(struct bytes book, size_t sheet)
+{
+    return entry_of(book, sheet) + 8;
+}
+
+bool entry_has_zeros(struct bytes book, size_t sheet)
+{
+    return get_16(entry_of(book, sheet) + 6) == 0;
+}
+
+struct sheet read_entry(struct bytes book, size_t sheet)
+{
+    const uint8_t *entry = entry_of(book, sheet);
+    return (struct sheet){get_32(entry), get_16(entry + 4), start_block_of(book, sheet), NULL};
 }
 
 size_t read_sheets(struct bytes book, struct sheet sheets[PLANBOOK_MAX_SHEETS])
 {
-    size_t n = get_16(book.at + 2);
-    const uint8_t *records = book.at + PLANBOOK_HEAD_BYTES + PLANBOOK_ENTRY_BYTES * n;
+    size_t n = sheet_count(book);
+    const uint8_t *records = entry_of(book, n);
     for (size_t i = 0; i < n; i++) {
-        const uint8_t *entry = book.at + PLANBOOK_HEAD_BYTES + PLANBOOK_ENTRY_BYTES * i;
-        sheets[i] = (struct sheet){get_32(entry), get_16(entry + 4), entry + 8, records};
+        sheets[i] = read_entry(book, i);
+        sheets[i].records = records;
         records += PLANBOOK_RECORD_BYTES * sheets[i].count;
     }
     return n;
 }
 
 /* Record: trial and entry in four bytes each, replicate in one, row and column in two each, three zero bytes. */
-struct record read_record(const uint8_t *at)
+struct record read_record(const struct sheet *sheet, size_t place)
 {
+    const uint8_t *at = sheet->records + PLANBOOK_RECORD_BYTES * place;
     return (struct record){get_32(at), get_32(at + 4), at[8], get_16(at + 9), get_16(at + 11)};
 }
 

@@ -1,16 +1,25 @@
 /*
  * The parts of the command planbook, one file each:
  *
- *   planbook.c   options, and what each subcommand does
- *   messages.c   messages and exit statuses
- *   files.c      reading inputs, and outputs that appear whole or not at all
- *   key.c        keys from files
- *   book.c       a book's parts, and its acceptance by the library
- *   text.c       books as text for people: show, labels
- *   csv.c        plans as CSV: pack, unpack
+ *   planbook.c    the table of verbs
+ *   arguments.c   the command line: options, words, help
+ *   verbs.c       what each verb does
+ *   messages.c    messages and exit statuses
+ *   memory.c      memory that is wiped before it is given back
+ *   inputs.c      files read
+ *   outputs.c     files written, which appear whole or not at all
+ *   key.c         keys from files, and random bytes
+ *   book.c        a book's parts
+ *   library.c     the calls of the library
+ *   refusals.c    what the library refuses, in the words of the user's plan
+ *   csv.c         lines and fields of a CSV text
+ *   plan.c        plans as CSV become books, and books plans
+ *   text.c        text in memory
+ *   tables.c      books as tables for people
+ *   json.c        books as JSON
  *
- * The command runs once and ends, so an error anywhere prints its message and exits; what must be undone then is undone
- * by the one function that files.c has registered for the exit.
+ * The command runs once and ends, so an error anywhere prints its message and exits. What must be undone then is undone by
+ * the two functions that memory.c and outputs.c have registered for the exit.
  */
 #ifndef PLANBOOK_CLI_H
 #define PLANBOOK_CLI_H
@@ -18,7 +27,6 @@
 #include <stdbool.h>
 #include <stddef.h>
 #include <stdint.h>
-#include <stdio.h>
 
 #include "planbook.h"
 
@@ -27,6 +35,46 @@ struct bytes {
     size_t len;
 };
 
+/* arguments.c */
+
+enum option { KEY, KEY_HEX, WAY, STARTS, BITS, CSV, JSON, FORCE, OPTIONS };
+
+#define MAX_WORDS 3
+
+/* The value of each option given, and the words that are no options. A word that is not given is null. */
+struct arguments {
+    const char *value[OPTIONS];
+    const char *words[MAX_WORDS];
+};
+
+struct verb {
+    const char *name;
+    const char *words; /* as the usage shows them */
+    const char *summary;
+    void (*run)(const struct arguments *given);
+    bool takes[OPTIONS];
+    bool needs_key;
+    size_t least_words, most_words;
+};
+
+/* The verb and its arguments. Where help is asked for instead, prints it and answers null. */
+const struct verb *read_arguments(const struct verb *verbs, size_t count, char **words, struct arguments *given);
+
+/* The usage of all verbs, for a command line without a verb. */
+void fail_without_verb(const struct verb *verbs, size_t count) __attribute__((noreturn));
+
+/* verbs.c */
+
+void run_keygen(const struct arguments *given);
+void run_check(const struct arguments *given);
+void run_seal(const struct arguments *given);
+void run_open(const struct arguments *given);
+void run_show(const struct arguments *given);
+void run_labels(const struct arguments *given);
+void run_find(const struct arguments *given);
+void run_pack(const struct arguments *given);
+void run_unpack(const struct arguments *given);
+
 /* messages.c */
 
 enum { STATUS_REFUSED = 1, STATUS_ERROR = 2 };
@@ -34,13 +82,45 @@ enum { STATUS_REFUSED = 1, STATUS_ERROR = 2 };
 /* A usage or file error: the message, then exit status 2. */
 void fail(const char *format, ...) __attribute__((noreturn, format(printf, 1, 2)));
 
-/* A book or key that the library refuses: the check's number and sentence, then exit status 1. A line of 0 is none. */
-void refuse(const char *name, size_t line, uint32_t check) __attribute__((noreturn));
+/* A refusal of the library, or a search without a find (check 0): the message, then exit status 1. */
+void refuse(uint32_t check, const char *format, ...) __attribute__((noreturn, format(printf, 2, 3)));
 
-/* files.c */
+/* Something to know about; the command goes on. */
+void warn(const char *format, ...) __attribute__((format(printf, 1, 2)));
 
-/* Closed standard streams and signals, before anything is opened. */
-void files_prepare(void);
+/*
+ * A fault of the plan, where more may follow: the message, and the command goes on. The check is that of the library's
+ * refusal, or 0 for a fault of form. Of the warnings and of the faults of a group the first 20 are printed, and the rest
+ * counted.
+ */
+void report(uint32_t check, const char *format, ...) __attribute__((format(printf, 2, 3)));
+
+/* How many faults there were. */
+size_t reported(void);
+
+/* The end of a group, such as the faults of single lines: tells how many were not printed. */
+void end_group(void);
+
+/* The end of all groups: if there was a fault, exits with status 2, or 1 where the library refused and the form was good. */
+void end_reports(void);
+
+/* A number with a comma before every three digits. At most four of them in one message. */
+const char *grouped(size_t number);
+
+/* memory.c */
+
+void memory_prepare(void);
+
+/* Memory, or an exit. */
+struct bytes new_bytes(size_t len);
+
+/* Wipes and frees. */
+void release(struct bytes *bytes);
+
+/* All memory that is not released yet. */
+void release_all(void);
+
+/* inputs.c */
 
 bool is_standard(const char *name); /* null or "-": standard input or output */
 
@@ -49,14 +129,25 @@ const char *input_title(const char *name); /* for messages */
 /* The whole input, but never more than limit + 1 bytes: a caller sees by the length that there was too much. */
 struct bytes read_input(const char *name, size_t limit);
 
-/* Memory, or an exit. */
-struct bytes new_bytes(size_t len);
+/* The same, with a warning if others may read the file. */
+struct bytes read_secret_input(const char *name, size_t limit);
+
+struct stat;
+bool is_input(const struct stat *file);
+
+/* outputs.c */
+
+/* Closed standard streams and signals, before anything is opened. */
+void outputs_prepare(void);
+
+/* What becomes of an existing file. A key is kept whatever the user says: it may be the only one to books that are sealed. */
+enum existing { KEEP, KEEP_KEY, REPLACE };
 
 struct output {
     const char *name;
     struct bytes bytes;
-    bool secret;  /* mode 0600, whatever the umask permits */
-    bool replace; /* may take the place of an existing file */
+    bool secret; /* a new file gets mode 0600, whatever the umask permits */
+    enum existing existing;
 };
 
 #define MAX_OUTPUTS 2
@@ -64,23 +155,22 @@ struct output {
 /* Makes all outputs or, as far as the system lets it, none. */
 void write_outputs(const struct output *outputs, size_t count);
 
-/* Text in memory: begin gives a stream to print to, end gives its bytes. */
-struct text {
-    FILE *stream;
-    char *at;
-    size_t len;
-};
-void text_begin(struct text *text);
-struct bytes text_end(struct text *text);
-
 /* key.c */
 
 struct bytes read_key(const char *name);
 struct bytes read_hex_key(const char *name);
-void wipe(struct bytes *secret);
 
 /* The value of a hexadecimal digit, or -1. */
 int hex_digit(int c);
+
+/* Exactly 2 * len hexadecimal digits become len bytes; answers whether they are that. */
+bool read_hex(struct bytes digits, uint8_t *at, size_t len);
+
+/* Unpredictable bytes from the system. */
+void draw_random(uint8_t *at, size_t len);
+
+/* A new key. */
+struct bytes draw_key(size_t len);
 
 /* book.c */
 
@@ -95,34 +185,113 @@ struct record {
     uint32_t trial, entry, replicate, row, column;
 };
 
+/* The number of sheets that a book of at least four bytes says it has. */
+size_t sheet_count(struct bytes book);
+
+/* A sheet of the contents without its records, from a book whose contents are there. */
+struct sheet read_entry(struct bytes book, size_t sheet);
+bool entry_has_zeros(struct bytes book, size_t sheet);
+
+/* The sheets of an accepted book; answers how many. */
+size_t read_sheets(struct bytes book, struct sheet sheets[PLANBOOK_MAX_SHEETS]);
+struct record read_record(const struct sheet *sheet, size_t place);
+
+void put_head(uint8_t *at, size_t sheets);
+void put_entry(uint8_t *at, uint32_t trial, size_t count);
+uint8_t *start_block_of(struct bytes book, size_t sheet);
+void put_record(uint8_t *at, const struct record *record);
+
+/* library.c */
+
 typedef uint64_t book_call(const uint8_t *key, size_t key_len, uint64_t way, const uint8_t *book, size_t book_len,
                            uint8_t *out, size_t out_len);
+
+/* One call; answers its check. Whatever it left on the stack is wiped. */
+uint32_t call_library(book_call *call, struct bytes key, uint64_t way, struct bytes book, struct bytes out);
 
 /* The check at which the library refuses a clear or a sealed book, or 0. No key is needed for either. */
 uint32_t check_clear_book(struct bytes book);
 uint32_t check_sealed_book(struct bytes book);
 
-/* The sheets of an accepted book; answers how many. */
-size_t read_sheets(struct bytes book, struct sheet sheets[PLANBOOK_MAX_SHEETS]);
-struct record read_record(const uint8_t *at);
+/* The check of a clear book that has this record alone, in a sheet of this trial. */
+uint32_t check_record(uint32_t trial, const uint8_t *record);
 
-void put_head(uint8_t *at, size_t sheets);
-void put_entry(uint8_t *at, uint32_t trial, size_t count, const uint8_t *start_block);
-void put_record(uint8_t *at, const struct record *record);
+/* refusals.c */
 
-/* text.c */
+/* Why a book was refused that should have been a clear one, or a sealed one that was to be opened. */
+void refuse_clear_book(const char *name, struct bytes book, uint32_t check) __attribute__((noreturn));
+void refuse_sealed_book(const char *name, struct bytes book, uint32_t check) __attribute__((noreturn));
 
-struct bytes show_text(struct bytes book);
-struct bytes labels_text(struct bytes book);
-void print_hex(FILE *to, const uint8_t *at, size_t len);
+/* What is wrong with a record or a trial number that the library has refused. */
+const char *record_fault(const struct record *record, uint32_t trial);
 
 /* csv.c */
 
-/* The clear book of a plan, accepted by the library; the names are for messages. */
-struct bytes pack_plan(struct bytes plan, const char *plan_name, struct bytes starts, const char *starts_name);
+#define MAX_COLUMNS 256
+#define MAX_USED_COLUMNS 5
+
+struct csv {
+    const char *name;
+    uint8_t *next, *end; /* what is still to be read */
+    size_t line;         /* the number of the current line, from 1; of its first one, if a quoted field has line feeds */
+    size_t next_line;    /* the number of the one after it */
+    size_t empty_line;   /* an empty line before the current one, or 0 */
+    uint8_t separator;
+    const char *fault; /* what is wrong with the form of the current line, or null */
+    size_t field_count, column_count;
+    struct bytes fields[MAX_COLUMNS];
+    size_t place[MAX_USED_COLUMNS]; /* where the used columns stand in a line */
+};
+
+/* Begins with the header, in which each of the columns must have its name. The text is changed where quotes are undone. */
+void csv_begin(struct csv *csv, struct bytes text, const char *name, const char *const *columns, size_t count);
+
+/* Steps to the next line that can be used, and reports those that cannot. False at the end. */
+bool csv_next(struct csv *csv);
+
+/* A field of the current line, by the number of its column in csv_begin's list. */
+struct bytes csv_field(const struct csv *csv, size_t column);
+
+/* Whether a text says that it is UTF-16, which is not read. */
+bool is_utf16(struct bytes text);
+
+/* A field as a message shows it: in quotes, cut where it is long. One in a message. */
+const char *csv_found(struct bytes field);
+
+/* plan.c */
+
+/* Whether an input is a plan rather than a book: it begins with text. */
+bool is_plan(struct bytes input);
+
+/* The clear book of a plan, accepted by the library; the names are for messages. Where starts is null, start blocks are drawn. */
+struct bytes pack_plan(struct bytes plan, const char *plan_name, const struct bytes *starts, const char *starts_name);
+
+/* Warns of start blocks that are zero or shared in an accepted clear book. */
+void warn_of_start_blocks(const char *name, struct bytes book);
 
 /* The two CSV files of an accepted clear book. */
 struct bytes unpack_plan(struct bytes book);
 struct bytes unpack_starts(struct bytes book);
+
+/* text.c */
+
+struct text {
+    struct bytes room;
+    size_t len;
+};
+
+/* One piece is at most 1 KiB long. */
+void text_print(struct text *text, const char *format, ...) __attribute__((format(printf, 2, 3)));
+void text_print_hex(struct text *text, const uint8_t *at, size_t len);
+struct bytes text_end(struct text *text);
+
+/* tables.c and json.c */
+
+struct bytes show_table(struct bytes book);
+struct bytes show_json(struct bytes book);
+struct bytes labels_table(struct bytes book);
+struct bytes labels_json(struct bytes book);
+struct bytes record_table(const struct sheet *sheet, size_t place);
+struct bytes record_json(const struct sheet *sheet, size_t place);
 
 #endif

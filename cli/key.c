@@ -1,20 +1,13 @@
-/* Keys. The user says which form the file has; it is never guessed from the contents. */
+/* Keys. The user says which form the file has; it is never guessed from the contents. Also random bytes, of which keys are made. */
 #define _DEFAULT_SOURCE
 #include "cli.h"
 
-#include <stdlib.h>
+#include <errno.h>
 #include <string.h>
+#include <sys/random.h>
 
 /* Far above any key: what is longer is no key file, and the rest of it need not be read. */
-#define HEX_KEY_LIMIT 4096
-
-void wipe(struct bytes *secret)
-{
-    explicit_bzero(secret->at, secret->len);
-    free(secret->at);
-    secret->at = NULL;
-    secret->len = 0;
-}
+#define KEY_FILE_LIMIT 4096
 
 int hex_digit(int c)
 {
@@ -27,28 +20,77 @@ int hex_digit(int c)
     return -1;
 }
 
-/* Raw bytes. A wrong length is left to the library, whose check 1 it is. */
+bool read_hex(struct bytes digits, uint8_t *at, size_t len)
+{
+    bool good = digits.len == 2 * len;
+    for (size_t i = 0; good && i < len; i++) {
+        int high = hex_digit(digits.at[2 * i]), low = hex_digit(digits.at[2 * i + 1]);
+        good = high >= 0 && low >= 0;
+        if (good)
+            at[i] = (uint8_t)(high << 4 | low);
+    }
+    return good;
+}
+
+/* Digits and nothing else, but for the end of a line. */
+static bool is_all_hex(struct bytes text)
+{
+    if (text.len > 0 && text.at[text.len - 1] == '\n')
+        text.len--;
+    if (text.len > 0 && text.at[text.len - 1] == '\r')
+        text.len--;
+    for (size_t i = 0; i < text.len; i++)
+        if (hex_digit(text.at[i]) < 0)
+            return false;
+    return text.len > 0;
+}
+
+/*
+ * Raw bytes. A wrong length is left to the library, whose check 1 it is. A key file in hexadecimal would pass for 32 raw bytes
+ * and seal a book that nobody else can open; a raw key looks like one no more than once in 10^17.
+ */
 struct bytes read_key(const char *name)
 {
-    return read_input(name, PLANBOOK_MAX_KEY_BYTES);
+    struct bytes key = read_secret_input(name, KEY_FILE_LIMIT);
+    if (is_all_hex(key))
+        fail("%s is all hexadecimal digits: take --key-hex for a key that is written so", input_title(name));
+    return key;
 }
 
 struct bytes read_hex_key(const char *name)
 {
-    struct bytes text = read_input(name, HEX_KEY_LIMIT);
-    size_t digits = text.len;
-    if (digits > HEX_KEY_LIMIT)
+    struct bytes text = read_secret_input(name, KEY_FILE_LIMIT);
+    if (text.len > KEY_FILE_LIMIT)
         fail("%s: too long for a key", input_title(name));
-    if (digits > 0 && text.at[digits - 1] == '\n')
-        digits--;
-    for (size_t i = 0; i < digits; i++)
+    if (text.len > 0 && text.at[text.len - 1] == '\n')
+        text.len--;
+    for (size_t i = 0; i < text.len; i++)
         if (hex_digit(text.at[i]) < 0)
             fail("%s: byte %zu of the key is not a hexadecimal digit", input_title(name), i + 1);
-    if (digits % 2 != 0)
-        fail("%s: the key has an odd number of hexadecimal digits", input_title(name));
-    struct bytes key = new_bytes(digits / 2);
-    for (size_t i = 0; i < key.len; i++)
-        key.at[i] = (uint8_t)(hex_digit(text.at[2 * i]) << 4 | hex_digit(text.at[2 * i + 1]));
-    wipe(&text);
+    if (text.len % 2 != 0)
+        fail("%s: the key has an odd number of hexadecimal digits, %zu", input_title(name), text.len);
+    struct bytes key = new_bytes(text.len / 2);
+    read_hex(text, key.at, key.len);
+    release(&text);
+    return key;
+}
+
+void draw_random(uint8_t *at, size_t len)
+{
+    for (size_t done = 0; done < len;) {
+        ssize_t got = getrandom(at + done, len - done, 0);
+        if (got < 0 && errno != EINTR)
+            fail("the system gives no random bytes: %s", strerror(errno));
+        done += got < 0 ? 0 : (size_t)got;
+    }
+}
+
+/* One that read_key would take for hexadecimal is drawn again. */
+struct bytes draw_key(size_t len)
+{
+    struct bytes key = new_bytes(len);
+    do
+        draw_random(key.at, key.len);
+    while (is_all_hex(key));
     return key;
 }

@@ -1,63 +1,43 @@
-/* Accepted books as text for people. */
+/* Text in memory. It grows by copying, so that what it leaves behind is wiped; a stream of the C library would not do that. */
 #include "cli.h"
 
-void print_hex(FILE *to, const uint8_t *at, size_t len)
+#include <stdarg.h>
+#include <stdio.h>
+#include <string.h>
+
+#define MAX_PIECE 1024
+
+static void make_room(struct text *text)
+{
+    if (text->room.at != NULL && text->room.len - text->len >= MAX_PIECE)
+        return;
+    struct bytes wider = new_bytes(2 * text->room.len + 4 * MAX_PIECE);
+    if (text->len > 0)
+        memcpy(wider.at, text->room.at, text->len);
+    release(&text->room);
+    text->room = wider;
+}
+
+void text_print(struct text *text, const char *format, ...)
+{
+    va_list arguments;
+    make_room(text);
+    va_start(arguments, format);
+    int len = vsnprintf((char *)text->room.at + text->len, MAX_PIECE, format, arguments);
+    va_end(arguments);
+    if (len < 0 || len >= MAX_PIECE)
+        fail("a piece of text is longer than %d bytes", MAX_PIECE);
+    text->len += (size_t)len;
+}
+
+void text_print_hex(struct text *text, const uint8_t *at, size_t len)
 {
     for (size_t i = 0; i < len; i++)
-        fprintf(to, "%02x", at[i]);
+        text_print(text, "%02x", at[i]);
 }
 
-static void print_contents(FILE *to, struct bytes book, const struct sheet *sheets, size_t n)
+struct bytes text_end(struct text *text)
 {
-    size_t records = 0;
-    for (size_t i = 0; i < n; i++)
-        records += sheets[i].count;
-    fprintf(to, "%s plan book: sheets %zu, records %zu, bytes %zu\n", book.at[0] == PLANBOOK_SEALED ? "sealed" : "clear", n,
-            records, book.len);
-    if (n > 0)
-        fprintf(to, "\n%10s %7s  %s\n", "TRIAL", "RECORDS", "START BLOCK");
-    for (size_t i = 0; i < n; i++) {
-        fprintf(to, "%10u %7u  ", (unsigned)sheets[i].trial, (unsigned)sheets[i].count);
-        print_hex(to, sheets[i].start_block, PLANBOOK_BLOCK_BYTES);
-        fputc('\n', to);
-    }
-}
-
-static void print_sheet(FILE *to, const struct sheet *sheet)
-{
-    for (uint32_t place = 0; place < sheet->count; place++) {
-        struct record r = read_record(sheet->records + PLANBOOK_RECORD_BYTES * place);
-        fprintf(to, "%10u %5u %10u %9u %5u %6u\n", (unsigned)r.trial, (unsigned)place, (unsigned)r.entry, (unsigned)r.replicate,
-                (unsigned)r.row, (unsigned)r.column);
-    }
-}
-
-struct bytes show_text(struct bytes book)
-{
-    struct sheet sheets[PLANBOOK_MAX_SHEETS];
-    size_t n = read_sheets(book, sheets);
-    struct text text;
-    text_begin(&text);
-    print_contents(text.stream, book, sheets, n);
-    if (book.at[0] == PLANBOOK_CLEAR && n > 0) {
-        fprintf(text.stream, "\n%10s %5s %10s %9s %5s %6s\n", "TRIAL", "PLACE", "ENTRY", "REPLICATE", "ROW", "COLUMN");
-        for (size_t i = 0; i < n; i++)
-            print_sheet(text.stream, &sheets[i]);
-    }
-    return text_end(&text);
-}
-
-struct bytes labels_text(struct bytes book)
-{
-    struct sheet sheets[PLANBOOK_MAX_SHEETS];
-    size_t n = read_sheets(book, sheets);
-    struct text text;
-    text_begin(&text);
-    for (size_t i = 0; i < n; i++)
-        for (uint32_t place = 0; place < sheets[i].count; place++) {
-            fprintf(text.stream, "%u %u ", (unsigned)sheets[i].trial, (unsigned)place);
-            print_hex(text.stream, sheets[i].records + PLANBOOK_RECORD_BYTES * place, PLANBOOK_RECORD_BYTES);
-            fputc('\n', text.stream);
-        }
-    return text_end(&text);
+    make_room(text); /* an empty text has memory too */
+    return (struct bytes){text->room.at, text->len};
 }

@@ -1,5 +1,6 @@
 #!/bin/sh
-# The main job from end to end, on the plan beside this script: pack, seal by every way, print the labels, open, show.
+# The main job from end to end, on the plan beside this script: a key, a plan sealed in one step, its digest compared, its labels,
+# the plan opened again. Then the steps one by one, by every way and by the C program of the README.
 # usage: demo.sh COMMAND PROGRAM FOLDER  (the command planbook, the program seal_book, a folder for the books)
 set -eu
 [ $# -eq 3 ] || { echo "usage: demo.sh COMMAND PROGRAM FOLDER" >&2; exit 2; }
@@ -7,7 +8,6 @@ command=$1
 program=$2
 books=$3
 here=$(dirname "$0")
-key=$here/example-key-not-secret.hex
 
 say() { printf '\n== %s\n' "$*"; }
 
@@ -24,12 +24,39 @@ same() { cmp "$1" "$2" || { echo "demo: $1 and $2 differ" >&2; exit 1; }; }
 rm -rf "$books"
 mkdir -p "$books"
 
-say "The plan (CSV) becomes a clear book"
+say "A key for the season, drawn by the system: only you can read it"
+run keygen --bits 256 "$books/season.key"
+
+say "The plan (CSV) is checked, and sealed in one step"
+run check "$here/plan.csv"
+run seal --key "$books/season.key" "$here/plan.csv" "$books/sealed.book"
+
+say "Its digest goes to the receiver by another way than the book: by telephone, on paper"
+(cd "$books" && echo "$ sha256sum sealed.book >sealed.book.sha256" && sha256sum sealed.book >sealed.book.sha256 && cat sealed.book.sha256)
+
+say "What anyone can read of the sealed book"
+run show "$books/sealed.book"
+
+say "The labels: trial, place in the sheet, sealed record"
+run labels "$books/sealed.book"
+
+say "The receiver compares the digest before opening: a book may have been changed on its way, and opening does not show that"
+(cd "$books" && echo "$ sha256sum -c sealed.book.sha256" && sha256sum -c sealed.book.sha256)
+run open --key "$books/season.key" "$books/sealed.book" "$books/plan.csv"
+same "$books/plan.csv" "$here/plan.csv"
+echo "The plan is the same, byte for byte."
+
+say "A label read in the field: which plot is it?"
+label=$("$command" labels "$books/sealed.book" | sed -n '12s/.* //p')
+run find --key "$books/season.key" "$books/sealed.book" "$label"
+
+say "Step by step: the clear book by itself, with start blocks from a file, so that it can be made again exactly"
 run pack --starts "$here/starts.csv" "$here/plan.csv" "$books/clear.book"
 
 say "It is sealed by each of the three ways, under an example key that is no secret"
+install -m 600 "$here/example-key-not-secret.hex" "$books/example-key-not-secret.hex"
 for way in 1 2 3; do
-    run seal --key-hex "$key" --way $way "$books/clear.book" "$books/sealed-$way.book"
+    run seal --key-hex "$books/example-key-not-secret.hex" --way $way "$books/clear.book" "$books/sealed-$way.book"
 done
 same "$books/sealed-1.book" "$books/sealed-2.book"
 same "$books/sealed-1.book" "$books/sealed-3.book"
@@ -40,14 +67,8 @@ say "The C program of the README seals it too"
 same "$books/program.book" "$books/sealed-2.book"
 echo "Its book is the same one."
 
-say "What anyone can read of the sealed book"
-run show "$books/sealed-2.book"
-
-say "The labels: trial, place in the sheet, sealed record"
-run labels "$books/sealed-2.book"
-
 say "It is opened again, and the plan shown"
-run open --key-hex "$key" "$books/sealed-2.book" "$books/opened.book"
+run open --key-hex "$books/example-key-not-secret.hex" "$books/sealed-2.book" "$books/opened.book"
 same "$books/opened.book" "$books/clear.book"
 echo "The opened book is the clear one, byte for byte."
 run show "$books/opened.book"

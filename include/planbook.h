@@ -8,7 +8,7 @@
  * A clear book begins with 01 00, a sealed one with 02 00. Sealing encrypts every body with CLEFIA in CBC mode: each
  * sheet has a chain of its own, which begins at the start block (the field's word: IV) that stands in its contents
  * entry. Head and contents are copied, but for the first byte. A sealed book is as long as the clear one. The format is
- * written down whole in docs/FORMAT.md; the lengths are named below.
+ * written down whole in FORMAT.md, which is installed with this header; the lengths are named below.
  *
  * Six calls do the work: the constants of the key schedule, the expanded ("prepared") key, one block encrypted or
  * decrypted, one book encrypted ("sealed") or decrypted ("opened"). Every call but the first takes a "way", which is
@@ -32,17 +32,32 @@
  * is exactly the input is permitted.
  *
  * The library keeps no state between calls, so there is nothing to initialise, and any number of threads may call it at
- * once, each with an output of its own.
+ * once, each with an output of its own. A call uses at most PLANBOOK_STACK_BYTES of stack and nothing from the heap.
+ *
+ * When a call with a key has returned, the key and all words of the expanded key still stand on the stack below the caller,
+ * where no function's variable is. planbook_wipe_stack overwrites them. Call it in the function that made the call, when
+ * the last call is made; buffers of the caller's own are the caller's to wipe.
+ *
+ * OPEN ONLY BOOKS WHOSE ORIGIN YOU KNOW
+ *
+ * Whoever can have books opened under your key, and learns no more than whether each was refused, can read your plan
+ * without the key. Out of your sealed records and start blocks of one's own choice books can be made that are refused just
+ * when an entry was guessed right; for a plan of 21 records 279 answers gave every entry. So:
+ *
+ * - open only books whose origin you know;
+ * - never offer opening as a service to others, be it by hand, in a program or over a network;
+ * - have the digest of the sealed file (sha256sum) sent by another way than the file, and compare the two before opening.
  *
  * WHAT IS NOT PROMISED
  *
  * - Timing. Ways 1 and 2 read tables at places that depend on secret bytes. No way is promised to take the same time for
  *   all keys and records.
- * - Who wrote a book. Sealing is not authenticated: a changed sealed book may open as another plan.
+ * - Who wrote a book. Sealing is not authenticated: a changed sealed book may open as another plan. Compare its digest.
  * - The right key. A wrong key mostly meets check 11, but a book may open under it as another plan.
  * - Secrecy of the contents. Trials, record counts and start blocks stay readable in a sealed book.
  * - Keys and start blocks. The caller draws them. Use a start block once under a key; it should not be predictable.
- * - Wiping. Keys and clear records may stay behind in dead stack memory.
+ * - Wiping. No call wipes what it leaves on the stack; planbook_wipe_stack does. Registers are not wiped, nor copies that
+ *   the system made of registers and memory.
  * - Other platforms. The library is built for x86-64 Linux.
  */
 #ifndef PLANBOOK_H
@@ -55,7 +70,21 @@
 extern "C" {
 #endif
 
-#define PLANBOOK_VERSION "0.1.0"
+#define PLANBOOK_VERSION "0.2.0"
+
+/* Not part of the interface: a cast that neither language warns of, and the compiler's attributes. */
+#ifdef __cplusplus
+#define PLANBOOK_CAST(type, value) static_cast<type>(value)
+#else
+#define PLANBOOK_CAST(type, value) ((type)(value))
+#endif
+#ifdef __GNUC__
+#define PLANBOOK_MUST_USE __attribute__((__warn_unused_result__))
+#define PLANBOOK_OWN_FRAME __attribute__((__noinline__, __unused__, __no_sanitize_address__))
+#else
+#define PLANBOOK_MUST_USE
+#define PLANBOOK_OWN_FRAME
+#endif
 
 /* Key lengths in bytes. Where a key is asked for, any of the three will do. */
 #define PLANBOOK_KEY128_BYTES 16
@@ -88,6 +117,9 @@ extern "C" {
 #define PLANBOOK_CLEAR 1
 #define PLANBOOK_SEALED 2
 
+/* The stack that a call needs at most. The tests hold every call to three quarters of it; the rest is reserve. */
+#define PLANBOOK_STACK_BYTES 16384
+
 /* The ways: all give the same bytes. If in doubt, take the word tables; make bench measures all three. */
 #define PLANBOOK_WAY_BYTE_TABLES 1 /* the S-boxes as tables of bytes, mixing by field multiplication */
 #define PLANBOOK_WAY_WORD_TABLES 2 /* S-box and mixing together, eight tables of 256 words */
@@ -116,7 +148,7 @@ extern "C" {
  *
  * Checks: 1 (key_length), 4 (out_len). Count: the words written, 60, 84 or 92.
  */
-uint64_t planbook_constants(uint64_t key_length, uint8_t *out, size_t out_len);
+PLANBOOK_MUST_USE uint64_t planbook_constants(uint64_t key_length, uint8_t *out, size_t out_len);
 
 /*
  * The expanded key (also "prepared key"): four whitening keys, then the round keys, as words of four bytes, highest
@@ -129,7 +161,8 @@ uint64_t planbook_constants(uint64_t key_length, uint8_t *out, size_t out_len);
  *
  * Checks: 1 (key_len), 2 (way), 4 (out_len). Count: the words written, 40, 48 or 56.
  */
-uint64_t planbook_expand_key(const uint8_t *key, size_t key_len, uint64_t way, uint8_t *out, size_t out_len);
+PLANBOOK_MUST_USE uint64_t planbook_expand_key(const uint8_t *key, size_t key_len, uint64_t way,
+                                               uint8_t *out, size_t out_len);
 
 /*
  * One block, encrypted or decrypted. Each is the inverse of the other under the same key.
@@ -141,10 +174,10 @@ uint64_t planbook_expand_key(const uint8_t *key, size_t key_len, uint64_t way, u
  *
  * Checks: 1 (key_len), 2 (way), 3 (block_len), 4 (out_len). Count: 1.
  */
-uint64_t planbook_encrypt_block(const uint8_t *key, size_t key_len, uint64_t way,
-                                const uint8_t *block, size_t block_len, uint8_t *out, size_t out_len);
-uint64_t planbook_decrypt_block(const uint8_t *key, size_t key_len, uint64_t way,
-                                const uint8_t *block, size_t block_len, uint8_t *out, size_t out_len);
+PLANBOOK_MUST_USE uint64_t planbook_encrypt_block(const uint8_t *key, size_t key_len, uint64_t way,
+                                                  const uint8_t *block, size_t block_len, uint8_t *out, size_t out_len);
+PLANBOOK_MUST_USE uint64_t planbook_decrypt_block(const uint8_t *key, size_t key_len, uint64_t way,
+                                                  const uint8_t *block, size_t block_len, uint8_t *out, size_t out_len);
 
 /*
  * Seals a clear book. Its records keep their places; head and contents stay, but for the first byte.
@@ -157,8 +190,8 @@ uint64_t planbook_decrypt_block(const uint8_t *key, size_t key_len, uint64_t way
  * Checks: 1 (key_len), 2 (way), 4 (out_len), then of the book 5, 6 (begins with 01 00), 7, 8, 9, 10, 11.
  * Count: the records in the book; 0 is a good answer, since a book may have no sheet.
  */
-uint64_t planbook_encrypt_book(const uint8_t *key, size_t key_len, uint64_t way,
-                               const uint8_t *book, size_t book_len, uint8_t *out, size_t out_len);
+PLANBOOK_MUST_USE uint64_t planbook_encrypt_book(const uint8_t *key, size_t key_len, uint64_t way,
+                                                 const uint8_t *book, size_t book_len, uint8_t *out, size_t out_len);
 
 /*
  * Opens a sealed book, the inverse of planbook_encrypt_book under the same key. Parameters, limits and count are as there,
@@ -167,19 +200,19 @@ uint64_t planbook_encrypt_book(const uint8_t *key, size_t key_len, uint64_t way,
  * Checks: 1 (key_len), 2 (way), 4 (out_len), then of the book 5, 6 (begins with 02 00), 7, 8, 9, 10, and 11 of the
  * decrypted records.
  */
-uint64_t planbook_decrypt_book(const uint8_t *key, size_t key_len, uint64_t way,
-                               const uint8_t *book, size_t book_len, uint8_t *out, size_t out_len);
+PLANBOOK_MUST_USE uint64_t planbook_decrypt_book(const uint8_t *key, size_t key_len, uint64_t way,
+                                                 const uint8_t *book, size_t book_len, uint8_t *out, size_t out_len);
 
 /* The check of an answer: PLANBOOK_ACCEPTED or PLANBOOK_CHECK_... */
 static inline uint32_t planbook_check(uint64_t answer)
 {
-    return (uint32_t)(answer >> 32);
+    return PLANBOOK_CAST(uint32_t, answer >> 32);
 }
 
 /* The count of an answer: words, blocks or records; 0 after a refusal. */
 static inline uint32_t planbook_count(uint64_t answer)
 {
-    return (uint32_t)(answer & 0xffffffffu);
+    return PLANBOOK_CAST(uint32_t, answer & 0xffffffffu);
 }
 
 /* What a check means, as a sentence without capital and full stop. Never null. */
@@ -205,6 +238,34 @@ static inline const char *planbook_check_sentence(uint32_t check)
     default: return "there is no check of this number";
     }
 }
+
+/* The version of this header and of the library that it was installed with. */
+static inline const char *planbook_version(void)
+{
+    return PLANBOOK_VERSION;
+}
+
+/* Tells that this header has planbook_wipe_stack. */
+#define PLANBOOK_WIPE_STACK 1
+
+/*
+ * Overwrites PLANBOOK_STACK_BYTES of stack below the function that calls it, where a call made in that function has left
+ * the key, the expanded key and what it worked on. It needs as much stack itself, and some bytes more.
+ *
+ * The stores are volatile, so that no compiler leaves them out. The function has a frame of its own: inlined, it would
+ * wipe a part of the caller's frame.
+ */
+static PLANBOOK_OWN_FRAME void planbook_wipe_stack(void)
+{
+    volatile uint64_t below[PLANBOOK_STACK_BYTES / 8];
+    size_t i;
+    for (i = 0; i < sizeof below / sizeof below[0]; i++)
+        below[i] = 0;
+}
+
+#undef PLANBOOK_CAST
+#undef PLANBOOK_MUST_USE
+#undef PLANBOOK_OWN_FRAME
 
 #ifdef __cplusplus
 }

@@ -159,6 +159,36 @@ static void check_entries(void)
     expect(refusal(9), "falling trials");
 }
 
+/* Every sheet says that it has 1,024 records: from the fourth on, more in all than a book can hold. */
+static void new_overfull_book(size_t sheets, size_t len)
+{
+    new_book(sheets, 1);
+    for (size_t i = 0; i < sheets; i++) {
+        entry(i)[4] = 1024 >> 8;
+        entry(i)[5] = 0;
+    }
+    if (len > book_len)
+        random_fill(&random_source, book + book_len, len - book_len);
+    book_len = len;
+}
+
+/* All entries are judged before the length is: behind such counts too, a broken entry is check 9's and not check 10's. */
+static void check_overfull_contents(size_t sheets, size_t len)
+{
+    static const uint8_t broken[][2] = {{4, 0}, {5, 1}, {6, 1}, {7, 0x80}}; /* a byte of the entry, and its value */
+    size_t last = sheets - 1;
+    new_overfull_book(sheets, len);
+    expect(refusal(10), "more records than a book can hold");
+    for (size_t i = 0; i < sizeof broken / sizeof broken[0]; i++) {
+        new_overfull_book(sheets, len);
+        entry(last)[broken[i][0]] = broken[i][1];
+        expect(refusal(9), "a broken entry behind more records than a book can hold");
+    }
+    new_overfull_book(sheets, len);
+    memcpy(entry(last), entry(last - 1), 4);
+    expect(refusal(9), "a trial met again behind more records than a book can hold");
+}
+
 /* Some byte of the last record set to a value. */
 static void expect_record(unsigned at, uint8_t value, uint64_t answer, const char *what)
 {
@@ -196,6 +226,9 @@ void check_edges(void)
     check_sizes();
     check_head_and_contents();
     check_entries();
+    check_overfull_contents(5, HEAD_LENGTH + 5 * ENTRY_LENGTH);
+    check_overfull_contents(5, MAX_BOOK_LENGTH);
+    check_overfull_contents(64, MAX_BOOK_LENGTH); /* 65,536 records: a sum in 16 bits would be 0 */
     check_records();
     printf("edges: %u books with a stated answer, each by %d ways\n", tried, WAYS);
 }

@@ -42,6 +42,8 @@ static void check_lengths(void)
     EXPECT(PLANBOOK_MAX_BOOK_BYTES, MAX_BOOK_LENGTH);
     EXPECT(PLANBOOK_CLEAR, CLEAR_BOOK);
     EXPECT(PLANBOOK_SEALED, SEALED_BOOK);
+    EXPECT(PLANBOOK_WIPE_STACK, 1);
+    EXPECT(PLANBOOK_STACK_BYTES, 16384); /* README and planbook.3 say so */
 }
 
 static void check_numbers(void)
@@ -70,6 +72,7 @@ static void check_helpers(void)
     expect("planbook_count of a refusal", planbook_count(refusal), 0);
     expect("planbook_check of a count", planbook_check(4088), 0);
     expect("planbook_count of a count", planbook_count(4088), 4088);
+    expect("planbook_version is PLANBOOK_VERSION", strcmp(planbook_version(), PLANBOOK_VERSION) == 0, 1);
     /* Each number has a sentence of its own, and so have those above the last. */
     for (uint32_t a = 0; a <= LAST_CHECK + 1; a++)
         for (uint32_t b = 0; b < a; b++)

@@ -31,13 +31,42 @@ test_install() {
     holds "the example is built from what is installed" $cc -Wall -Wextra -Werror examples/seal_book.c $flags -o "$work/seal_book"
     cd "$work" || exit 2
     unhex 000102030405060708090a0b0c0d0e0f >key
+    chmod 600 key
     "$planbook" seal --key key clear s
     ./seal_book <clear >t 2>err
     judge "the example" 0 "records sealed: 1" $?
     same t s
     ./seal_book <sealed128 >t 2>err
     judge "the example with a sealed book" 1 "refused, check 6:" $?
-    rm -f s t
+    rm -f s t key
+}
+
+# completes WORDS..: what bash offers for the last of the words.
+completes() {
+    bash -c '. "$1/cli/planbook.bash"; shift; compopt() { :; }
+        COMP_WORDS=(planbook "$@"); COMP_CWORD=$#; _planbook; printf "%s\n" "${COMPREPLY[@]}"' bash "$here" "$@"
+}
+
+test_completion() {
+    if ! command -v bash >/dev/null; then
+        skip "the completion: no bash"
+        return
+    fi
+    verbs=$("$planbook" --help | sed -n 's/^  \([a-z]*\) .*/\1/p')
+    completes "" | grep -v -e '^help$' -e '^--' >got
+    printf '%s\n' $verbs >wanted
+    same got wanted
+    completes help "" >got
+    same got wanted
+    for verb in $verbs; do
+        "$planbook" help "$verb" | sed -n 's/^  \(--[a-z-]*\) .*/\1/p' >wanted
+        completes "$verb" -- | grep -v '^--help$' >got
+        holds "the completion has the options of $verb" cmp -s got wanted
+    done
+    [ "$(completes seal --way '' | tr '\n' ' ')" = "1 2 3 " ] || bad "the completion of --way"
+    [ "$(completes keygen --bits 1 | tr '\n' ' ')" = "128 192 " ] || bad "the completion of --bits"
+    [ "$(completes seal --key hex19)" = hex192 ] || bad "the completion of a file name"
+    [ "$(completes se)" = seal ] || bad "the completion of a verb"
 }
 
 test_papers() {
@@ -50,12 +79,23 @@ test_papers() {
     for option in $("$planbook" --help | grep -oE -e '--[a-z-]+' | sort -u); do
         holds "the manual page has $option" grep -qE -e "Fl ${option#-}( |\$)" cli/planbook.1
     done
+    for verb in $("$planbook" --help | sed -n 's/^  \([a-z]*\) .*/\1/p'); do
+        holds "the manual page has $verb in its synopsis and its list" [ "$(grep -cE "^(\.It )?\.?Cm $verb\$|^\.It Cm $verb\$" cli/planbook.1)" -ge 2 ]
+    done
     if [ -f README.md ]; then
         # the program as the README prints it, between its first line and the closing fence
         sed -n '/^\/\* Seals the clear book on standard input/,/^```/p' README.md | sed '/^```/d' >"$work/readme.c"
         same "$work/readme.c" examples/seal_book.c
     fi
+    cd "$work" || exit 2
+}
+
+test_demo() {
+    cd "$here" || exit 2
     holds "the demo" make -s demo CLI_DIR="$built" >"$work/demo.txt" 2>&1
     holds "the demo opens its book" grep -q "The opened book is the clear one" "$work/demo.txt"
+    holds "the demo goes from a plan to a plan" grep -q "The plan is the same, byte for byte" "$work/demo.txt"
+    holds "the demo compares digests" grep -q "sealed.book: OK" "$work/demo.txt"
+    holds "the demo has no warning" [ -z "$(grep warning "$work/demo.txt")" ]
     cd "$work" || exit 2
 }

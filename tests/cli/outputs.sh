@@ -6,7 +6,7 @@ test_existing_outputs() {
     expect 2 "old exists" unpack --starts new clear old
     expect 2 "old exists" unpack --starts old clear new
     holds "no half of an unpacked plan" [ ! -e new ]
-    expect 1 "check 11:" open --force --key key192 sealed128 old
+    expect 1 "[check 11]" open --force --key key192 sealed128 old
     same old precious
     expect 0 "" seal --force --key key128 clear old
     same old sealed128
@@ -41,11 +41,101 @@ test_existing_outputs() {
     same both precious
     expect_nothing x 2 "cannot make missing/y" unpack --starts missing/y clear x
     rm -f both link old kept
+    # a failed --force leaves both files as they were, or the one that it did not come to
+    cp precious a
+    cp precious b
+    with_fault no-rename:1 unpack --force --starts b clear a
+    judge "the first of two files cannot be replaced" 2 "cannot make a: Input/output error" $?
+    same a precious
+    same b precious
+    with_fault no-rename:2 unpack --force --starts b clear a
+    judge "the second of two files cannot be replaced" 2 "cannot make b: Input/output error" $?
+    same a plan.csv
+    same b precious
+    with_fault no-rename:1 unpack --force --starts a clear y
+    judge "the file that exists cannot be replaced" 2 "cannot make a: Input/output error" $?
+    same a plan.csv
+    holds "the other is not made" [ ! -e y ]
+    rm -f a b
+}
+
+# What a replaced file had stays: its mode, its group, and nothing for another group.
+test_modes() {
+    (umask 022 && "$planbook" seal --key key128 clear s) 2>err
+    mode_is 644 s
+    (umask 027 && "$planbook" seal --force --key key128 clear t) 2>err
+    mode_is 640 t
+    rm -f t
+    for mode in 600 640 664; do
+        chmod $mode s
+        expect 0 "" seal --force --key key128 clear s
+        mode_is $mode s
+    done
+    cp precious p
+    chmod 644 p
+    expect_exactly 0 "planbook: warning: p keeps its mode 644, so others may read it" open --force --key key128 sealed128 p
+    mode_is 644 p
+    same p clear
+    chmod 600 p
+    expect 0 "" open --force --key key128 sealed128 p
+    if [ "$(id -u)" -eq 0 ]; then
+        chown 65534:65534 s
+        expect 0 "" seal --force --key key128 clear s
+        holds "owner and group stay" [ "$(stat -c %u:%g s)" = 65534:65534 ]
+        chmod 664 s
+        with_fault no-owner seal --force --key key128 clear s
+        judge "owner and group cannot stay" 0 "" $?
+        mode_is 604 s
+    else
+        skip "owner and group of a replaced file: not run by root"
+    fi
+    with_fault no-mode open --key key128 sealed128 x
+    judge "a file system without modes" 0 "" $?
+    mode_is 600 x
+    rm -f s p x
+}
+
+# A USB stick: no links, perhaps no rename that does not replace.
+test_no_links() {
+    for fault in no-link no-link,no-noreplace; do
+        with_fault $fault seal --key key128 clear x
+        judge "$fault" 0 "" $?
+        same x sealed128
+        rm -f x
+        with_fault $fault unpack --starts y clear x
+        judge "$fault, two outputs" 0 "" $?
+        same x plan.csv
+        same y starts.csv
+        rm -f x y
+        with_fault $fault,race:x seal --key key128 clear x
+        judge "$fault, the output appears meanwhile" 2 "cannot make x: File exists" $?
+        same x empty
+        rm -f x
+        with_fault $fault,late-race:x unpack --starts x clear y
+        judge "$fault, one of two outputs appears meanwhile" 2 "cannot make x: File exists" $?
+        same x empty
+        holds "$fault: the other is not made" [ ! -e y ]
+        rm -f x y
+        with_fault $fault keygen k
+        judge "$fault, a key" 0 "" $?
+        mode_is 600 k
+        rm -f k
+    done
+    with_fault no-link,no-noreplace,no-rename:1 seal --key key128 clear x
+    judge "a name that is reserved and cannot be used" 2 "cannot make x: Input/output error" $?
+    holds "the reserved name is given up" [ ! -e x ]
+    with_fault directory:5 seal --key key128 clear folder/x
+    judge "a directory that cannot be synchronised" 2 "folder/x is made, but its directory cannot be synchronised: Input/output error" $?
+    same folder/x sealed128
+    with_fault directory:22 seal --force --key key128 clear folder/x
+    judge "a file system that cannot synchronise directories" 0 "" $?
+    rm -f folder/x
 }
 
 test_full_disk() {
     for line in "seal --key key128 clear" "open --key key128 sealed128" "show clear" "labels sealed128" \
-        "pack --starts starts.csv plan.csv" "unpack --starts x clear" "--help"; do
+        "pack --starts starts.csv plan.csv" "unpack --starts x clear" "unpack clear" "find --key key128 sealed128 41 0" \
+        "check plan.csv" "keygen -" "--help" "help seal" "--version"; do
         "$planbook" $line >/dev/full 2>err
         judge "planbook $line, full disk" 2 "cannot write standard output: No space left on device" $?
         "$planbook" $line >&- 2>err
@@ -53,7 +143,7 @@ test_full_disk() {
     done
     holds "no start blocks without their plan" [ ! -e x ]
     # Under a file size limit the message must not go to a file.
-    { (ulimit -f 0; "$built/planbook" seal --key key128 clear x 2>&1; echo "status $?") | cat; } >err
+    { (ulimit -f 0; "$plain" seal --key key128 clear x 2>&1; echo "status $?") | cat; } >err
     holds "file size limit, exit status" grep -q "status 2" err
     judge "file size limit" 2 "cannot write x: File too large" 2
     with_fault full seal --key key128 clear x
@@ -62,13 +152,6 @@ test_full_disk() {
     judge "disk full in the middle of two files" 2 "cannot write x: No space left on device" $?
     holds "no part of a file" [ ! -e x ]
     holds "no part of a second file" [ ! -e y ]
-}
-
-# with_fault FAULT ARGUMENTS..: the unsanitized command with tests/cli/faults.c before the C library.
-with_fault() {
-    fault=$1
-    shift
-    FAULT=$fault LD_PRELOAD=$built/faults.so "$built/planbook" "$@" >out 2>err </dev/null
 }
 
 test_signals() {
@@ -80,15 +163,25 @@ test_signals() {
         holds "signal $signal: no output" [ ! -e x ]
         holds "signal $signal: no second output" [ ! -e folder/y ]
     done
+    for signal in 1 2 13 15; do # as under nohup
+        (trap '' $signal && with_fault signal:$signal seal --key key128 clear x)
+        judge "signal $signal is ignored" 0 "" $?
+        same x sealed128
+        rm -f x
+    done
     with_fault race:x seal --key key128 clear x
     judge "the output appears meanwhile" 2 "cannot make x: File exists" $?
     same x empty
     rm -f x
-    with_fault race:y unpack --starts x clear y
-    judge "one of two outputs appears meanwhile" 2 "cannot make y: File exists" $?
-    same y empty
-    holds "the other does not" [ ! -e x ]
-    rm -f y
+    for other in x y; do # either of two
+        with_fault late-race:$other unpack --starts x clear y
+        judge "one of two outputs appears meanwhile" 2 "cannot make $other: File exists" $?
+        same $other empty
+        rm -f $other
+        holds "the other does not" [ ! -e x ]
+        holds "the other does not" [ ! -e y ]
+        rm -f x y
+    done
 }
 
 # Standard streams that are closed, or slow.
@@ -100,11 +193,17 @@ test_streams() {
     holds "all standard streams closed" [ $? -eq 0 ]
     same x sealed128
     rm -f x
+    cp precious x
+    chmod 644 x
+    "$planbook" open --force --key key128 sealed128 x 2>&-
+    holds "standard error closed" [ $? -eq 0 ]
+    same x clear # and no message in it
+    rm -f x
     { head -c 20 clear; sleep 0.2; tail -c +21 clear; } | "$planbook" seal --key key128 >out 2>err
     judge "a book in two pieces" 0 "" $?
     same out sealed128
     { cat key256; sleep 0.2; echo; } | "$planbook" seal --key - clear x 2>err
-    judge "a key and a byte too much later" 1 "check 1:" $?
+    judge "a key and a byte too much later" 1 "the key in standard input is 33 bytes long, not 16, 24 or 32 [check 1]" $?
     "$planbook" labels sealed128 2>err | true
     judge "a reader that leaves early" 0 "" 0
 }
@@ -119,18 +218,26 @@ test_permissions() {
         skip "files without permission: run by root, and there is no setpriv"
         return
     fi
-    cp "$built/planbook" other
+    cp "$plain" other
     chmod 755 . other
     chmod 644 clear key128
     mkdir -m 555 locked
     (cd locked && $as_other ../other seal --key ../key128 ../clear x 2>../err)
     judge "a folder that may not be written" 2 "cannot make x: Permission denied" $?
+    mkdir -m 300 unlisted
+    [ -z "$as_other" ] || chown 65534 unlisted
+    $as_other ./other show clear unlisted/x 2>err
+    status=$?
+    chmod 700 unlisted
+    judge "a folder that may not be read, and so not be synchronised" 0 "" $status
+    chmod 600 key128
     cp clear unreadable
     chmod 0 unreadable
     $as_other ./other show unreadable 2>err
     judge "a book that may not be read" 2 "cannot open unreadable: Permission denied" $?
     $as_other ./other seal --key unreadable clear 2>err >out
     judge "a key that may not be read" 2 "cannot open unreadable: Permission denied" $?
+    rm -rf locked unlisted unreadable
 }
 
 test_terminal() {
@@ -138,11 +245,13 @@ test_terminal() {
         skip "terminals: no usable script(1)"
         return
     fi
-    for line in "seal --key key128 clear" "open --key key128 sealed128 -" "pack --starts starts.csv plan.csv"; do
+    for line in "seal --key key128 clear" "open --key key128 sealed128 -" "pack plan.csv" "keygen -"; do
         script -qec "'$planbook' $line" /dev/null >err 2>&1 </dev/null
-        judge "planbook $line, to a terminal" 2 "a book is not text" $?
+        judge "planbook $line, to a terminal" 2 "books and keys are not text" $?
         holds "planbook $line: only the message" [ "$(wc -l <err)" -eq 1 ]
     done
     script -qec "'$planbook' labels sealed128" /dev/null >err 2>&1 </dev/null
     judge "labels go to a terminal" 0 "41 0 $cipher128" $?
+    script -qec "'$planbook' open --csv --key key128 sealed128" /dev/null >err 2>&1 </dev/null
+    judge "a plan goes to a terminal" 0 "41,7,2,12,3" $?
 }

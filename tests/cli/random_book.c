@@ -1,17 +1,26 @@
 /*
- * Writes a random clear book and, from the same numbers, the CSV files that belong to it, into the current directory:
+ * Writes a random clear book and, from the same numbers, all that the command must make of it, into the current directory:
  *
- *   book                     the clear book
- *   plan.csv starts.csv      what unpack must give
- *   mixed.csv mixed-starts.csv  the same lines, trials mixed and start blocks reversed: pack must give the book all the same
+ *   book                        the clear book
+ *   plan.csv starts.csv         what unpack must give
+ *   mixed.csv mixed-starts.csv  the same lines as another spreadsheet might write them, trials mixed and start blocks
+ *                               reversed: pack must give the book all the same
+ *   key sealed                  a random key, and the book sealed by the reference in tests/
+ *   show.txt show.json          what show must print of the clear book
+ *   head.txt head.json          and of the sealed one
+ *   labels.txt labels.json      what labels must print
+ *   find                        one line for find: a label, then trial, place, entry, replicate, row and column
  *
  * usage: random_book SEED. It shares no code with the command.
  */
+#include "reference_book.h"
+
 #include <inttypes.h>
 #include <stdio.h>
 #include <stdlib.h>
+#include <string.h>
 
-enum { MAX_SHEETS = 64, MAX_COUNT = 1024, MAX_BOOK = 65532 };
+enum { MAX_COUNT = 1024, MAX_BOOK = 65532 };
 
 struct plot {
     uint32_t entry;
@@ -27,6 +36,8 @@ static struct {
 
 static unsigned sheet_count;
 static uint64_t state;
+static unsigned char clear[MAX_BOOK], sealed[MAX_BOOK];
+static size_t book_len;
 
 /* splitmix64 */
 static uint64_t draw(void)
@@ -89,34 +100,57 @@ static void finish(FILE *file)
 }
 
 /* Highest byte first. */
-static void put(FILE *book, uint32_t value, int bytes)
+static void put(uint32_t value, int bytes)
 {
     while (bytes-- > 0)
-        fputc((int)(value >> 8 * bytes & 0xff), book);
+        clear[book_len++] = (unsigned char)(value >> 8 * bytes);
+}
+
+static void write_file(const char *name, const unsigned char *bytes, size_t len)
+{
+    FILE *file = create(name);
+    if (fwrite(bytes, 1, len, file) != len)
+        exit(1);
+    finish(file);
 }
 
 static void write_book(void)
 {
-    FILE *book = create("book");
-    put(book, 0x0100, 2);
-    put(book, sheet_count, 2);
+    put(0x0100, 2);
+    put(sheet_count, 2);
     for (unsigned s = 0; s < sheet_count; s++) {
-        put(book, sheets[s].trial, 4);
-        put(book, sheets[s].count, 2);
-        put(book, 0, 2);
-        fwrite(sheets[s].start, 1, 16, book);
+        put(sheets[s].trial, 4);
+        put(sheets[s].count, 2);
+        put(0, 2);
+        memcpy(clear + book_len, sheets[s].start, 16);
+        book_len += 16;
     }
     for (unsigned s = 0; s < sheet_count; s++)
         for (unsigned i = 0; i < sheets[s].count; i++) {
             const struct plot *p = &sheets[s].plots[i];
-            put(book, sheets[s].trial, 4);
-            put(book, p->entry, 4);
-            put(book, p->replicate, 1);
-            put(book, p->row, 2);
-            put(book, p->column, 2);
-            put(book, 0, 3);
+            put(sheets[s].trial, 4);
+            put(p->entry, 4);
+            put(p->replicate, 1);
+            put(p->row, 2);
+            put(p->column, 2);
+            put(0, 3);
         }
-    finish(book);
+    write_file("book", clear, book_len);
+}
+
+/* The reference judges the book too: it must accept it. */
+static void write_sealed_book(void)
+{
+    static const size_t lengths[] = {16, 24, 32};
+    unsigned char key[32];
+    size_t len = lengths[below(3)];
+    for (size_t i = 0; i < len; i++)
+        key[i] = (unsigned char)draw();
+    call_input call = {CALL_ENCRYPT_BOOK, key, len, 1, clear, book_len, book_len};
+    if (reference_call(&call, sealed).failing != 0)
+        exit(1);
+    write_file("key", key, len);
+    write_file("sealed", sealed, book_len);
 }
 
 static void write_line(FILE *plan, unsigned s, unsigned i)
@@ -125,11 +159,16 @@ static void write_line(FILE *plan, unsigned s, unsigned i)
     fprintf(plan, "%" PRIu32 ",%" PRIu32 ",%u,%u,%u\n", sheets[s].trial, p->entry, p->replicate, p->row, p->column);
 }
 
+static void write_hex(FILE *to, const unsigned char *at)
+{
+    for (unsigned i = 0; i < 16; i++)
+        fprintf(to, "%02x", at[i]);
+}
+
 static void write_start(FILE *starts, unsigned s)
 {
     fprintf(starts, "%" PRIu32 ",", sheets[s].trial);
-    for (unsigned i = 0; i < 16; i++)
-        fprintf(starts, "%02x", sheets[s].start[i]);
+    write_hex(starts, sheets[s].start);
     fputc('\n', starts);
 }
 
@@ -147,19 +186,158 @@ static void write_csv(void)
     finish(starts);
 }
 
+/* Another spreadsheet's ways: separator, quotes, order of the columns, a column more, capitals, line ends. */
+
+static char separator;
+static const char *line_end;
+static unsigned order[6];
+
+static void shuffle_columns(void)
+{
+    for (unsigned i = 0; i < 6; i++)
+        order[i] = i;
+    for (unsigned i = 6; i-- > 1;) {
+        unsigned j = below(i + 1), kept = order[i];
+        order[i] = order[j];
+        order[j] = kept;
+    }
+}
+
+static void write_mixed_fields(FILE *to, char texts[6][64])
+{
+    for (unsigned i = 0; i < 6; i++) {
+        const char *quote = below(3) == 0 || order[i] == 5 ? "\"" : "";
+        fprintf(to, "%s%s%s", quote, texts[order[i]], quote);
+        if (i < 5)
+            fputc(separator, to);
+    }
+    fputs(line_end, to);
+}
+
+static void write_mixed_line(FILE *to, unsigned s, unsigned i)
+{
+    static const char *const notes[] = {"", "a note", "a; b, c\td", "with \"\"quotes\"\"", "two\nlines", "41"};
+    const struct plot *p = &sheets[s].plots[i];
+    char texts[6][64];
+    sprintf(texts[0], "%" PRIu32, sheets[s].trial);
+    sprintf(texts[1], "%" PRIu32, p->entry);
+    sprintf(texts[2], "%u", p->replicate);
+    sprintf(texts[3], "%u", p->row);
+    sprintf(texts[4], "%u", p->column);
+    strcpy(texts[5], notes[below(6)]);
+    write_mixed_fields(to, texts);
+}
+
 static void write_mixed_csv(void)
 {
     FILE *plan = create("mixed.csv"), *starts = create("mixed-starts.csv");
-    fputs("trial,entry,replicate,row,column\r\n", plan);
+    char names[6][64] = {"Trial", "entry", "REPLICATE", "Row", "cOLUMN", "remarks"};
+    separator = ",;\t"[below(3)];
+    line_end = below(2) == 0 ? "\r\n" : "\n";
+    shuffle_columns();
+    fputs(below(2) == 0 ? "\xef\xbb\xbf" : "", plan);
+    write_mixed_fields(plan, names);
     fputs("trial,start_block\n", starts);
     for (unsigned s = sheet_count; s-- > 0;)
         write_start(starts, s);
     for (unsigned i = 0; i < MAX_COUNT; i++)
         for (unsigned s = sheet_count; s-- > 0;)
             if (i < sheets[s].count)
-                write_line(plan, s, i);
+                write_mixed_line(plan, s, i);
+    fputs(below(2) == 0 ? line_end : "", plan);
     finish(plan);
     finish(starts);
+}
+
+/* Tables. Numbers stand right under their names. */
+
+static void write_head(FILE *to, const char *kind)
+{
+    unsigned records = 0;
+    for (unsigned s = 0; s < sheet_count; s++)
+        records += sheets[s].count;
+    fprintf(to, "%s plan book: sheets %u, records %u, bytes %zu\n", kind, sheet_count, records, book_len);
+    if (sheet_count > 0)
+        fputs("\n     TRIAL RECORDS  START BLOCK\n", to);
+    for (unsigned s = 0; s < sheet_count; s++) {
+        fprintf(to, "%10" PRIu32 "%8u  ", sheets[s].trial, sheets[s].count);
+        write_hex(to, sheets[s].start);
+        fputc('\n', to);
+    }
+}
+
+static void write_tables(void)
+{
+    FILE *head = create("head.txt"), *show = create("show.txt"), *labels = create("labels.txt");
+    const unsigned char *record = sealed + 4 + 24 * sheet_count;
+    write_head(head, "sealed");
+    write_head(show, "clear");
+    if (sheet_count > 0)
+        fputs("\n     TRIAL PLACE      ENTRY REPLICATE   ROW COLUMN\n", show);
+    for (unsigned s = 0; s < sheet_count; s++)
+        for (unsigned i = 0; i < sheets[s].count; i++, record += 16) {
+            const struct plot *p = &sheets[s].plots[i];
+            fprintf(show, "%10" PRIu32 "%6u%11" PRIu32 "%10u%6u%7u\n", sheets[s].trial, i, p->entry, p->replicate, p->row, p->column);
+            fprintf(labels, "%" PRIu32 " %u ", sheets[s].trial, i);
+            write_hex(labels, record);
+            fputc('\n', labels);
+        }
+    finish(head);
+    finish(show);
+    finish(labels);
+}
+
+/* JSON */
+
+static void write_json_head(FILE *to, const char *kind)
+{
+    fprintf(to, "{\"kind\": \"%s\", \"bytes\": %zu,\n \"sheets\": [", kind, book_len);
+    for (unsigned s = 0; s < sheet_count; s++) {
+        fprintf(to, "%s\n  {\"trial\": %" PRIu32 ", \"count\": %u, \"start_block\": \"", s > 0 ? "," : "", sheets[s].trial, sheets[s].count);
+        write_hex(to, sheets[s].start);
+        fputs("\"}", to);
+    }
+    fputs("\n ]", to);
+}
+
+static void write_json(void)
+{
+    FILE *head = create("head.json"), *show = create("show.json"), *labels = create("labels.json");
+    const unsigned char *record = sealed + 4 + 24 * sheet_count;
+    write_json_head(head, "sealed");
+    write_json_head(show, "clear");
+    fputs(",\n \"records\": [", show);
+    fputc('[', labels);
+    for (unsigned s = 0; s < sheet_count; s++)
+        for (unsigned i = 0; i < sheets[s].count; i++, record += 16) {
+            const struct plot *p = &sheets[s].plots[i];
+            const char *comma = s + i > 0 ? "," : "";
+            fprintf(show, "%s\n  {\"trial\": %" PRIu32 ", \"place\": %u, \"entry\": %" PRIu32, comma, sheets[s].trial, i, p->entry);
+            fprintf(show, ", \"replicate\": %u, \"row\": %u, \"column\": %u}", p->replicate, p->row, p->column);
+            fprintf(labels, "%s\n {\"trial\": %" PRIu32 ", \"place\": %u, \"label\": \"", comma, sheets[s].trial, i);
+            write_hex(labels, record);
+            fputs("\"}", labels);
+        }
+    fputs("\n}\n", head);
+    fputs("\n ]\n}\n", show);
+    fputs("\n]\n", labels);
+    finish(head);
+    finish(show);
+    finish(labels);
+}
+
+static void write_find(void)
+{
+    FILE *to = create("find");
+    if (sheet_count > 0) {
+        unsigned s = below(sheet_count), i = below(sheets[s].count), before = i;
+        for (unsigned t = 0; t < s; t++)
+            before += sheets[t].count;
+        const struct plot *p = &sheets[s].plots[i];
+        write_hex(to, sealed + 4 + 24 * sheet_count + 16 * before);
+        fprintf(to, " %" PRIu32 " %u %" PRIu32 " %u %u %u\n", sheets[s].trial, i, p->entry, p->replicate, p->row, p->column);
+    }
+    finish(to);
 }
 
 int main(int argc, char **argv)
@@ -169,7 +347,11 @@ int main(int argc, char **argv)
     state = strtoull(argv[1], NULL, 10);
     draw_book();
     write_book();
+    write_sealed_book();
     write_csv();
     write_mixed_csv();
+    write_tables();
+    write_json();
+    write_find();
     return 0;
 }

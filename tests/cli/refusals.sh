@@ -2,36 +2,97 @@
 
 test_usage() {
     expect 2 "usage:"
-    expect 0 "" --help
-    holds "--help names every subcommand" [ "$(grep -cE 'planbook (seal|open|show|labels|pack|unpack) ' out)" -eq 6 ]
-    expect 0 "" --version
-    expect 2 "close is not a subcommand" close
-    expect_nothing x 2 "seal has no option --kye" seal --kye key128 clear x
-    expect_nothing x 2 "show has no option --key" show --key key128 clear x
+    expect 2 "close is not a verb; planbook help lists them" close
+    expect_nothing x 2 "seal has no option --kye; planbook seal --help lists them" seal --kye key128 clear x
+    expect_nothing x 2 "seal has no option --kye" seal --kye=key128 clear x
+    expect_nothing x 2 "labels has no option --key" labels --key key128 sealed128 x
     expect_nothing x 2 "seal has no option -k" seal -k key128 clear x
-    expect_nothing x 2 "--key needs a value" seal clear x --key
+    expect_nothing x 2 "seal has no option --ke" seal --ke key128 clear x
+    expect_nothing x 2 "--key needs a value: FILE" seal clear x --key
     expect_nothing x 2 "--force is given twice" seal --force --key key128 --force clear x
-    expect_nothing x 2 "a key is needed" seal clear x
-    expect_nothing x 2 "a key is needed" seal --key key128 --key-hex hex128 clear x
-    expect_nothing x 2 "one too many" seal --key key128 clear x y
-    expect_nothing x 2 "pack needs --starts" pack plan.csv x
+    expect_nothing x 2 "--force takes no value" seal --force=yes --key key128 clear x
+    expect_exactly 2 "planbook: seal needs a key, by either --key or --key-hex; planbook keygen makes one" seal clear x
+    expect_exactly 2 "planbook: --key and --key-hex are both given, but a key is read from one file" seal --key key128 --key-hex hex128 clear x
+    expect_exactly 2 "planbook: --key and --key-hex are both given, but a key is read from one file" show --key key128 --key-hex hex128 sealed128 x
+    expect_nothing x 2 "y is one word too many: seal takes [PLAN | CLEAR [SEALED]]" seal --key key128 clear x y
     expect_nothing x 2 "only one of the inputs" seal --key - - x
     expect_nothing x 2 "only one of the inputs" pack --starts - - x
     expect_nothing x 2 "cannot both go to standard output" unpack --starts - clear
     for way in two -1 +2 2x '' ' 2' 18446744073709551616; do
-        expect_nothing x 2 "--way takes a number" seal --key key128 --way "$way" clear x
+        expect_nothing x 2 "--way takes a number: $way" seal --key key128 --way "$way" clear x
     done
+    # after --, a word is no option
+    cp clear ./--force
+    expect 0 "" seal --key key128 -- --force x
+    same x sealed128
+    expect 2 "is one word too many" seal --key key128 -- clear x --force
+    rm -f x ./--force
+    cp clear ./-h
+    expect 0 "" show -- -h
+    rm -f ./-h
+}
+
+test_help() {
+    verbs='keygen|check|seal|open|show|labels|find|pack|unpack'
+    for words in --help -h help; do
+        expect 0 "" $words
+        holds "$words names every verb" [ "$(grep -cE "planbook ($verbs) " out)" -eq 9 ]
+        holds "$words says what each does" [ "$(grep -cE "^  ($verbs) +[A-Z]" out)" -eq 9 ]
+    done
+    for verb in $(echo $verbs | tr '|' ' '); do
+        "$planbook" --help | sed -n "s/.*\(planbook $verb .*\)/usage: \1/p" >wanted
+        for words in "help $verb" "$verb --help" "$verb -h" "$verb x --help"; do
+            expect 0 "" $words
+            head -n 1 out >first
+            same first wanted
+        done
+    done
+    expect 0 "" seal --help
+    holds "the help of seal has its options" [ "$(grep -cE '^  --(key|key-hex|way|force) ' out)" -eq 4 ]
+    holds "and no others" [ "$(grep -cE '^  --' out)" -eq 4 ]
+    expect 2 "close is not a verb" help close
+    expect 2 "seal is one word too many after --help" --help seal
+    expect 2 "x is one word too many after seal" help seal x
+    expect 2 "x is one word too many after --version" --version x
+    expect 0 "" --version
+    sed -n 's/^#define PLANBOOK_VERSION "\(.*\)"/planbook \1/p' "$here/include/planbook.h" >wanted
+    same out wanted
+}
+
+# Names with control characters are shown escaped, others as they are.
+test_names() {
+    name=$(printf 'a\033[2Jb\nc\r\177\302\233')
+    expect_exactly 2 'planbook: cannot open a\x1b[2Jb\nc\x0d\x7f\xc2\x9b: No such file or directory' show "$name"
+    expect_exactly 2 'planbook: a\x1b[2Jb\nc\x0d\x7f\xc2\x9b is not a verb; planbook help lists them' "$name"
+    cp clear "$name"
+    expect_exactly 1 'planbook: a\x1b[2Jb\nc\x0d\x7f\xc2\x9b is a clear book, and a sealed one is needed here [check 6]' labels "$name"
+    rm -f "$name"
+    expect_exactly 2 'planbook: cannot open Zuckerrübe €: No such file or directory' show 'Zuckerrübe €'
+    expect_exactly 2 'planbook: cannot open \xff\xc3: No such file or directory' show "$(printf '\377\303')"
 }
 
 test_keys() {
-    for length in 0 15 17 23 25 31 33 5000; do
+    umask 077
+    for length in 0 15 17 23 25 31 33 4000; do
         head -c $length /dev/zero >short
-        expect_nothing x 1 "check 1: the key is not 16, 24 or 32 bytes" seal --key short clear x
+        expect_nothing x 1 "the key in short is $(echo $length | sed 's/^4/4,/') bytes long, not 16, 24 or 32 [check 1]" seal --key short clear x
     done
     echo 00112233445566778899aabbccddee >short
-    expect_nothing x 1 "check 1:" open --key-hex short sealed128 x
-    expect_nothing x 1 "check 1:" open --key-hex empty sealed128 x
-    expect_nothing x 1 "check 1:" open --key hex128 sealed128 x
+    expect_nothing x 1 "the key in short is 15 bytes long, not 16, 24 or 32 [check 1]" open --key-hex short sealed128 x
+    expect_nothing x 1 "the key in empty is 0 bytes long, not 16, 24 or 32 [check 1]" open --key-hex empty sealed128 x
+    # a key in hexadecimal is not taken for raw bytes
+    for bits in 128 192 256; do
+        expect_exactly 2 "planbook: hex$bits is all hexadecimal digits: take --key-hex for a key that is written so" open --key hex$bits sealed$bits x
+        tr -d '\n' <hex$bits >digits
+        expect_nothing x 2 "digits is all hexadecimal digits: take --key-hex" open --key digits sealed$bits x
+        { cat digits; printf '\r\n'; } >lines
+        expect_nothing x 2 "lines is all hexadecimal digits: take --key-hex" open --key lines sealed$bits x
+    done
+    printf 0123456789abcdeF >digits
+    expect_nothing x 2 "digits is all hexadecimal digits: take --key-hex" seal --key digits clear x
+    printf 0123456789abcdeg >digits
+    expect 0 "" seal --key digits clear x
+    rm -f x
     printf '%s\n\n' $key128 >lines
     expect_nothing x 2 "byte 33 of the key is not a hexadecimal digit" open --key-hex lines sealed128 x
     printf '%s\r\n' $key128 >lines
@@ -39,127 +100,95 @@ test_keys() {
     echo 0x112233445566778899aabbccddeeff >digits
     expect_nothing x 2 "byte 2 of the key is not a hexadecimal digit" open --key-hex digits sealed128 x
     echo 0112233445566778899aabbccddeeff >digits
-    expect_nothing x 2 "odd number" open --key-hex digits sealed128 x
+    expect_nothing x 2 "odd number of hexadecimal digits, 31" open --key-hex digits sealed128 x
     expect_nothing x 2 "not a hexadecimal digit" open --key-hex key128 sealed128 x
     expect_nothing x 2 "too long for a key" open --key-hex /dev/zero sealed128 x
     expect_nothing x 2 "cannot open missing: No such file" open --key missing sealed128 x
     expect_nothing x 2 "cannot read folder: Is a directory" open --key folder sealed128 x
     for way in 0 4 257 4294967297 18446744073709551615; do
-        expect_nothing x 1 "check 2: the way is not 1, 2 or 3" seal --key key128 --way $way clear x
+        expect_exactly 1 "planbook: --way $way: the ways are 1, 2 and 3 [check 2]" seal --key key128 --way $way clear x
     done
-    expect_nothing x 1 "check 11:" open --key key256 sealed128 x
+    expect_exactly 1 "planbook: sealed128 does not open under this key: most likely it was sealed under another one, or changed since [check 11]" \
+        open --key key256 sealed128 x
+    holds "nothing is made under a wrong key" [ ! -e x ]
+    # a key that others may read
+    for mode in 644 640 604; do
+        cp key128 open-key
+        chmod $mode open-key
+        expect_exactly 0 "planbook: warning: open-key may be read by others (mode $mode); chmod 600 keeps it to you" open --key open-key sealed128
+        same out clear
+    done
+    cp hex128 open-key
+    chmod 644 open-key
+    expect 0 "warning: open-key may be read by others" open --key-hex open-key sealed128
+    chmod 622 open-key
+    expect 0 "" open --key-hex open-key sealed128
+    umask 022
 }
 
-# bad_clear CHECK HEX..: a clear book that sealing, show and unpack refuse.
+# bad_clear CHECK SENTENCE HEX..: a clear book that sealing, show and unpack refuse.
 bad_clear() {
-    check=$1
-    shift
+    message="planbook: damaged$2 [check $1]"
+    shift 2
     unhex "$@" >damaged
-    expect_nothing x 1 "damaged: refused, check $check: " seal --key key128 damaged x
-    expect_nothing x 1 "damaged: refused, check $check: " show damaged x
-    expect_nothing x 1 "damaged: refused, check $check: " unpack --starts y damaged x
+    expect_exactly 1 "$message" seal --key key128 damaged x
+    expect_exactly 1 "$message" show damaged x
+    expect_exactly 1 "$message" unpack --starts y damaged x
+    holds "no plan of a refused book" [ ! -e x ]
     holds "no start blocks of a refused book" [ ! -e y ]
 }
 
-# bad_sealed CHECK HEX..: a sealed book that opening, show and labels refuse.
+# bad_sealed CHECK SENTENCE HEX..: a sealed book that opening, labels and find refuse.
 bad_sealed() {
-    check=$1
-    shift
+    message="planbook: damaged$2 [check $1]"
+    shift 2
     unhex "$@" >damaged
-    expect_nothing x 1 "damaged: refused, check $check: " open --key key128 damaged x
-    expect_nothing x 1 "damaged: refused, check $check: " labels damaged x
+    expect_exactly 1 "$message" open --key key128 damaged x
+    expect_exactly 1 "$message" labels damaged x
+    expect_exactly 1 "$message" find --key key128 damaged 41 0
+    holds "nothing is made of a refused book" [ ! -e x ]
 }
 
 test_books() {
-    bad_clear 5
-    bad_clear 5 010000
-    bad_clear 6 03000000
-    bad_clear 6 01010000
-    bad_clear 7 01000041
-    bad_clear 8 01000001 0000002900010000
-    bad_clear 9 01000001 0000002900000000$start
-    bad_clear 9 01000001 0000000000010000$start $record
-    bad_clear 9 01000002 $entry $entry $record $record
-    bad_clear 10 01000001 $entry
-    bad_clear 10 01000001 $entry $record 00
-    bad_clear 11 01000001 $entry 000000290000000705000c0003000000
-    bad_sealed 5
-    bad_sealed 5 020000
-    bad_sealed 6 01000001 $entry $record
-    bad_sealed 6 02010000
-    bad_sealed 7 02000041
-    bad_sealed 8 02000001 00000029
-    bad_sealed 9 02000001 0000002904010000$start
-    bad_sealed 10 02000001 $entry de2bf2fd
-    bad_sealed 10 02000001 $entry $cipher128 00
-    expect_nothing x 1 "check 6:" seal --key key128 sealed128 x
-    expect_nothing x 1 "check 5:" seal --key key128 /dev/zero x
+    bad_clear 5 " has 0 bytes, and a plan book has at least 4"
+    bad_clear 5 " has 3 bytes, and a plan book has at least 4" 010000
+    bad_clear 6 " is no clear plan book: it begins with 03 00 and not with 01 00" 03000000
+    bad_clear 6 " is no clear plan book: it begins with 01 01 and not with 01 00" 01010000
+    bad_clear 7 " says that it has 65 trials, and a plan book has at most 64" 01000041
+    bad_clear 8 " has 12 bytes, but the contents of its 1 trials need 28: its end is missing" 01000001 0000002900010000
+    bad_clear 9 ": trial 41 has 0 plots, and a trial has 1 to 1,024" 01000001 0000002900000000$start
+    bad_clear 9 ": trial 41 has 1,025 plots, and a trial has 1 to 1,024" 01000001 0000002904010000$start
+    bad_clear 9 ", sheet 1: trial 0, but trials begin at 1" 01000001 0000000000010000$start $record
+    bad_clear 9 ", sheet 2: trial 41 comes after trial 41, but trials must rise" 01000002 $entry $entry $record $record
+    bad_clear 9 ": the two reserved bytes of trial 41 in the contents are not zero" 01000001 0000002900010001$start $record
+    bad_clear 10 " has 28 bytes, but its contents say 44: its end is missing" 01000001 $entry
+    bad_clear 10 " has 45 bytes, but its contents say 44: something was added" 01000001 $entry $record 00
+    bad_clear 11 ", trial 41, place 0: replicate 5, but a replicate is 1 to 4" 01000001 $entry 000000290000000705000c0003000000
+    bad_clear 11 ", trial 41, place 1: entry 0, but entries begin at 1" 01000001 0000002900020000$start $record 000000290000000001000c0003000000
+    bad_clear 11 ", trial 41, place 0: a record of trial 42 in the sheet of trial 41" 01000001 $entry 0000002a0000000702000c0003000000
+    bad_clear 11 ", trial 41, place 0: the last three bytes of the record are not zero" 01000001 $entry 000000290000000702000c0003000001
+    bad_sealed 5 " has 0 bytes, and a plan book has at least 4"
+    bad_sealed 5 " has 3 bytes, and a plan book has at least 4" 020000
+    bad_sealed 6 " is a clear book, and a sealed one is needed here" 01000001 $entry $record
+    bad_sealed 6 " is no sealed plan book: it begins with 02 01 and not with 02 00" 02010000
+    bad_sealed 7 " says that it has 65 trials, and a plan book has at most 64" 02000041
+    bad_sealed 8 " has 8 bytes, but the contents of its 1 trials need 28: its end is missing" 02000001 00000029
+    bad_sealed 9 ": trial 41 has 1,025 plots, and a trial has 1 to 1,024" 02000001 0000002904010000$start
+    bad_sealed 10 " has 32 bytes, but its contents say 44: its end is missing" 02000001 $entry de2bf2fd
+    bad_sealed 10 " has 45 bytes, but its contents say 44: something was added" 02000001 $entry $cipher128 00
+    expect_exactly 1 "planbook: sealed128 is sealed already, and a clear book is needed here [check 6]" seal --key key128 sealed128 x
+    expect_exactly 1 "planbook: sealed128 is sealed already, and a clear book is needed here [check 6]" unpack sealed128 x
+    expect_exactly 1 "planbook: clear is a clear book, and a sealed one is needed here [check 6]" show --key key128 clear x
+    expect_exactly 1 "planbook: plan.csv is text, and a plan book is needed here [check 6]" show plan.csv x
+    expect_exactly 1 "planbook: plan.csv is text, and a plan book is needed here [check 6]" open --key key128 plan.csv x
+    bad_clear 6 " is no clear plan book: it begins with 41 42 and not with 01 00" 41424344 0a000000
+    bad_sealed 6 " is no sealed plan book: it begins with ff d8 and not with 02 00" ffd8ffe0 00104a46
+    for verb in "seal --key key128" "open --key key128" show labels unpack; do
+        expect_nothing x 1 "/dev/zero is longer than a plan book can be, which is 65,532 bytes [check 5]" $verb /dev/zero x
+    done
     head -c 43 sealed128 >cut
-    expect_nothing x 1 "check 10:" open --key key128 cut x
     cp cut in
-    expect_nothing x 1 "standard input: refused, check 10:" show
-    expect_nothing x 1 "check 5:" show empty x
+    expect_exactly 1 "planbook: standard input has 43 bytes, but its contents say 44: its end is missing [check 10]" show
     expect_nothing x 2 "cannot open missing: No such file" seal --key key128 missing x
     expect_nothing x 2 "cannot read folder: Is a directory" show folder x
-}
-
-# bad_plan STATUS SENTENCE LINE..: a plan whose lines after the header are these.
-bad_plan() {
-    status=$1
-    sentence=$2
-    shift 2
-    { echo trial,entry,replicate,row,column; [ $# -eq 0 ] || printf '%s\n' "$@"; } >damaged.csv
-    expect_nothing x "$status" "$sentence" pack --starts starts.csv damaged.csv x
-}
-
-# bad_starts SENTENCE LINE..: likewise the file of start blocks.
-bad_starts() {
-    sentence=$1
-    shift
-    { echo trial,start_block; [ $# -eq 0 ] || printf '%s\n' "$@"; } >damaged.csv
-    expect_nothing x 2 "$sentence" pack --starts damaged.csv plan.csv x
-}
-
-test_csv() {
-    good=41,7,2,12,3
-    bad_plan 2 "damaged.csv, line 3: the line has 4 fields instead of 5" $good 41,7,2,12
-    bad_plan 2 "damaged.csv, line 2: the line has 6 fields instead of 5" $good,9
-    bad_plan 2 "damaged.csv, line 3: the line is empty" $good '' $good
-    bad_plan 2 "damaged.csv, line 3: the line is empty" $good ''
-    bad_plan 2 "damaged.csv, line 4: the trial is not a number" $good $good x,7,2,12,3
-    bad_plan 2 "damaged.csv, line 2: the entry is not a number from 0 to 4294967295" 41,4294967296,2,12,3
-    bad_plan 2 "damaged.csv, line 2: the entry is not a number" 41,99999999999999999999999999,2,12,3
-    bad_plan 2 "damaged.csv, line 2: the entry is not a number" 41,,2,12,3
-    bad_plan 2 "damaged.csv, line 2: the replicate is not a number from 0 to 255" 41,7,256,12,3
-    bad_plan 2 "damaged.csv, line 2: the row is not a number from 0 to 65535" 41,7,2,-12,3
-    bad_plan 2 "damaged.csv, line 2: the row is not a number" '41,7,2, 12,3'
-    bad_plan 2 "damaged.csv, line 2: the column is not a number from 0 to 65535" 41,7,2,12,65536
-    bad_plan 2 "damaged.csv, line 2: the column is not a number" '41,7,2,12,"3"'
-    bad_plan 2 "damaged.csv, line 3: trial 42 has no start block in starts.csv" $good 42,7,2,12,3
-    bad_plan 2 "starts.csv, line 2: trial 41 has no line in damaged.csv"
-    bad_plan 2 "damaged.csv, line 2: trial 40 has no start block" 40,7,2,12,3
-    bad_plan 1 "damaged.csv, line 3: refused, check 11:" $good 41,7,5,12,3 $good 41,0,1,1,1
-    bad_plan 1 "damaged.csv, line 4: refused, check 11:" $good $good 41,0,1,12,3
-    bad_plan 1 "damaged.csv: refused, check 9:" $(yes $good | head -n 1025)
-    bad_plan 1 "damaged.csv: refused, check 5:" $(yes 41,7,5,12,3 | head -n 4096)
-    bad_starts "damaged.csv, line 3: trial 41 has a start block in line 2 already" 41,$start 41,$cipher128
-    bad_starts "damaged.csv, line 2: trial 40 has no line in plan.csv" 40,$start 41,$start
-    bad_starts "damaged.csv, line 3: trial 43 has no line in plan.csv" 41,$start 43,$start
-    bad_starts "plan.csv, line 2: trial 41 has no start block in damaged.csv"
-    bad_starts "damaged.csv, line 2: the start block is not 32 hexadecimal digits" 41,${start}0
-    bad_starts "damaged.csv, line 2: the start block is not 32 hexadecimal digits" 41,x${start#0}
-    bad_starts "damaged.csv, line 2: the line has 1 fields instead of 2" 41
-    { cat starts.csv; echo 0,$start; } >zero.csv
-    { cat plan.csv; echo 0,7,2,12,3; } >damaged.csv
-    expect_nothing x 1 "damaged.csv, line 3: refused, check 9:" pack --starts zero.csv damaged.csv x
-    { echo trial,start_block; seq -f "%.0f,$start" 1 65; } >many.csv
-    { echo trial,entry,replicate,row,column; seq -f '%.0f,1,1,1,1' 1 65; } >damaged.csv
-    expect_nothing x 1 "damaged.csv: refused, check 7:" pack --starts many.csv damaged.csv x
-    expect_nothing x 2 "empty, line 1: the file is empty" pack --starts starts.csv empty x
-    expect_nothing x 2 "starts.csv, line 1: the header" pack --starts starts.csv starts.csv x
-    expect_nothing x 2 "clear, line 1: the header" pack --starts clear plan.csv x
-    expect_nothing x 2 "/dev/zero: too long for a plan" pack --starts starts.csv /dev/zero x
-    expect_nothing x 2 "cannot open missing" pack --starts missing plan.csv x
-    { cat plan.csv; printf '41,7,2,12,3\0\n'; } >damaged.csv
-    expect_nothing x 2 "damaged.csv, line 3: the column is not a number" pack --starts starts.csv damaged.csv x
 }

@@ -1,0 +1,92 @@
+#include "limits.h"
+#include "tasks.h"
+
+#include <math.h>
+#include <stdio.h>
+
+/* Stands for the number of records: every book of growth_records. */
+enum { GROWING_BOOKS = 1 };
+
+struct measured {
+    enum kind kind;
+    size_t records;
+    uint64_t way;
+    enum side side;
+};
+
+struct limit {
+    const char *what;
+    struct measured above, below;
+    enum { AT_MOST, AT_LEAST } sense;
+    double bound;
+};
+
+#define BLOCK(way, side) {ENCRYPT_BLOCK, 0, way, side}
+#define SEALING(way, side) {ENCRYPT_BOOK, LARGEST_BOOK, way, side}
+#define OPENING(way, side) {DECRYPT_BOOK, LARGEST_BOOK, way, side}
+#define SMALL(kind) {kind, SMALL_BOOK, 2, LIBRARY}
+#define GROWING(kind) {kind, GROWING_BOOKS, 2, LIBRARY}
+
+static const struct limit limits[] = {
+    {"way 1, the largest book sealed, library / C", SEALING(1, LIBRARY), SEALING(1, PLAIN), AT_MOST, 1.10},
+    {"way 1, one block encrypted, library / C", BLOCK(1, LIBRARY), BLOCK(1, PLAIN), AT_MOST, 1.10},
+    {"way 2, the largest book sealed, library / C", SEALING(2, LIBRARY), SEALING(2, PLAIN), AT_MOST, 1.05},
+    {"way 2, one block encrypted, library / C", BLOCK(2, LIBRARY), BLOCK(2, PLAIN), AT_MOST, 1.75},
+    {"way 3, the largest book sealed, library / C", SEALING(3, LIBRARY), SEALING(3, PLAIN), AT_MOST, 1.10},
+    {"way 3, one block encrypted, library / C", BLOCK(3, LIBRARY), BLOCK(3, PLAIN), AT_MOST, 1.10},
+    {"way 2, the largest book opened, library / C", OPENING(2, LIBRARY), OPENING(2, PLAIN), AT_MOST, 2.00},
+    {"way 1, the largest book, opening / sealing", OPENING(1, LIBRARY), SEALING(1, LIBRARY), AT_MOST, 2.10},
+    {"way 2, the largest book, opening / sealing", OPENING(2, LIBRARY), SEALING(2, LIBRARY), AT_MOST, 1.15},
+    {"way 3, the largest book, opening / sealing", OPENING(3, LIBRARY), SEALING(3, LIBRARY), AT_MOST, 2.10},
+    {"way 2, 24 records, opening / sealing", SMALL(DECRYPT_BOOK), SMALL(ENCRYPT_BOOK), AT_MOST, 1.35},
+    {"the largest book sealed, way 1 / way 2", SEALING(1, LIBRARY), SEALING(2, LIBRARY), AT_LEAST, 2},
+    {"the largest book sealed, way 3 / way 2", SEALING(3, LIBRARY), SEALING(2, LIBRARY), AT_LEAST, 8},
+    {"the largest book sealed, way 3 / way 2", SEALING(3, LIBRARY), SEALING(2, LIBRARY), AT_MOST, 50},
+    {"way 2, sealing, a record of the largest book / of a book of 511 or more",
+     SEALING(2, LIBRARY), GROWING(ENCRYPT_BOOK), AT_MOST, 1.10},
+    {"way 2, opening, the same", OPENING(2, LIBRARY), GROWING(DECRYPT_BOOK), AT_MOST, 1.10},
+};
+enum { LIMITS = sizeof limits / sizeof limits[0] };
+
+static const double *times(const struct measured *m, size_t key_len)
+{
+    return find_task(m->kind, m->records, key_len, m->way)->ns[m->side];
+}
+
+static double worst_of_keys(const struct limit *l)
+{
+    double worst = l->sense == AT_MOST ? 0 : INFINITY;
+    for (size_t key_len = 16; key_len <= 32; key_len += 8) {
+        double ratio = median_ratio(times(&l->above, key_len), times(&l->below, key_len));
+        worst = l->sense == AT_MOST ? fmax(worst, ratio) : fmin(worst, ratio);
+    }
+    return worst;
+}
+
+/* A record of the one book over a record of the others, whichever is dearer; 16-byte key. */
+static double growth(const struct limit *l)
+{
+    double worst = 1;
+    for (size_t i = 0; i < GROWTH_SIZES; i++) {
+        struct measured below = l->below;
+        below.records = growth_records[i];
+        double ratio = median_ratio(times(&l->above, 16), times(&below, 16))
+                     * (double)below.records / (double)l->above.records;
+        worst = fmax(worst, fmax(ratio, 1 / ratio));
+    }
+    return worst;
+}
+
+int print_limits(void)
+{
+    int broken = 0;
+    printf("| ratio | found | limit | |\n|---|---:|---:|---|\n");
+    for (const struct limit *l = limits; l < limits + LIMITS; l++) {
+        double found = l->below.records == GROWING_BOOKS ? growth(l) : worst_of_keys(l);
+        int most = l->sense == AT_MOST, holds = most ? found <= l->bound : found >= l->bound;
+        broken += !holds;
+        printf("| %s | %.3f | at %s %.2f | %s |\n", l->what, found, most ? "most" : "least", l->bound,
+               holds ? "pass" : "broken");
+    }
+    return broken;
+}

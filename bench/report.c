@@ -1,0 +1,101 @@
+#include "report.h"
+#include "limits.h"
+#include "tasks.h"
+
+#include <stdio.h>
+#include <string.h>
+
+static void print_machine(void)
+{
+    char line[256], *model = NULL;
+    FILE *f = fopen("/proc/cpuinfo", "r");
+    while (f != NULL && model == NULL && fgets(line, sizeof line, f) != NULL)
+        if (strncmp(line, "model name", 10) == 0 && (model = strchr(line, ':')) != NULL)
+            model[strcspn(model, "\n")] = 0;
+    if (f != NULL)
+        fclose(f);
+    printf("- CPU:%s\n", model != NULL ? model + 1 : " not told by this system");
+}
+
+static void print_run(const struct disturbance *d)
+{
+    printf("- Turns: %d\n", turns);
+    printf("- Another load on the core: %.0f s were spent waiting for it to end or on timings that it spoilt; "
+           "%d of %d timings were kept although it was there\n", d->waited_ns / 1e9, d->kept, d->timings);
+}
+
+static void print_task(const struct task *t)
+{
+    static const char *names[] = {"expand a key", "encrypt one block", "decrypt one block",
+                                  "seal a book", "open a book"};
+    printf("| %zu | %d | %s", t->key_len, (int)t->way, names[t->kind]);
+    if (t->records > 0)
+        printf(" of %zu records, a record", t->records);
+    printf(" | %.1f | %.1f | %.3f |\n", task_ns(t, LIBRARY), task_ns(t, PLAIN),
+           median_ratio(t->ns[LIBRARY], t->ns[PLAIN]));
+}
+
+static void print_tasks(void)
+{
+    printf("| key bytes | way | measured | library ns | plain C ns | library / C |\n"
+           "|---:|---:|---|---:|---:|---:|\n");
+    for (size_t i = 0; i < MAIN_TASKS; i++)
+        print_task(&tasks[i]);
+}
+
+static void print_packed(void)
+{
+    printf("| key bytes | way | largest book sealed, four bytes a word, ns a record | over plain C | library over it |\n"
+           "|---:|---:|---:|---:|---:|\n");
+    for (size_t i = 0; i < MAIN_TASKS; i++) {
+        const struct task *t = &tasks[i];
+        if (has_side(t, PACKED))
+            printf("| %zu | %d | %.1f | %.3f | %.3f |\n", t->key_len, (int)t->way, task_ns(t, PACKED),
+                   median_ratio(t->ns[PACKED], t->ns[PLAIN]), median_ratio(t->ns[LIBRARY], t->ns[PACKED]));
+    }
+}
+
+static void print_scales(const struct scale *scales, size_t scale_count)
+{
+    if (scale_count == 0) {
+        printf("OpenSSL's headers or ciphers were not present; skipped.\n");
+        return;
+    }
+    printf("| OpenSSL, one chain of %d blocks | encrypt, ns a block | decrypt, ns a block |\n"
+           "|---|---:|---:|\n", LARGEST_BOOK);
+    for (size_t i = 0; i < scale_count; i++)
+        printf("| %s | %.1f | %.1f |\n", scales[i].name, scales[i].encrypt_ns, scales[i].decrypt_ns);
+}
+
+static void print_growth_row(size_t records)
+{
+    printf("| %zu | %.1f | %.1f |\n", records,
+           task_ns(find_task(ENCRYPT_BOOK, records, 16, 2), LIBRARY),
+           task_ns(find_task(DECRYPT_BOOK, records, 16, 2), LIBRARY));
+}
+
+static void print_growth(void)
+{
+    printf("| records | library seals, ns a record | library opens, ns a record |\n"
+           "|---:|---:|---:|\n");
+    print_growth_row(SMALL_BOOK);
+    for (size_t i = 0; i < GROWTH_SIZES; i++)
+        print_growth_row(growth_records[i]);
+    print_growth_row(LARGEST_BOOK);
+}
+
+int print_report(const struct disturbance *d, const struct scale *scales, size_t scale_count)
+{
+    print_machine();
+    print_run(d);
+    printf("\n");
+    print_tasks();
+    printf("\nPlain C with four bytes doubled in one word, which no limit is about:\n\n");
+    print_packed();
+    printf("\nFor scale, what a user might take instead:\n\n");
+    print_scales(scales, scale_count);
+    printf("\nGrowth with the number of records, 16-byte key, way 2:\n\n");
+    print_growth();
+    printf("\nThe limits, for the worst of the three key lengths, growth for 16 bytes:\n\n");
+    return print_limits();
+}

@@ -1,0 +1,11 @@
+/* The figures as Markdown, on standard output. */
+#ifndef REPORT_H
+#define REPORT_H
+
+#include "measure.h"
+#include "scale.h"
+
+/* Answers how many limits are broken. */
+int print_report(const struct disturbance *d, const struct scale *scales, size_t scale_count);
+
+#endif

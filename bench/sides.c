@@ -1,0 +1,163 @@
+#include "sides.h"
+#include "plain.h"
+#include "planbook.h"
+
+#include <string.h>
+
+typedef uint64_t expand_call(const uint8_t *key, size_t key_len, uint64_t way,
+                             uint8_t *out, size_t out_len);
+typedef uint64_t keyed_call(const uint8_t *key, size_t key_len, uint64_t way,
+                            const uint8_t *in, size_t in_len, uint8_t *out, size_t out_len);
+
+struct calls {
+    expand_call *expand_key;
+    keyed_call *encrypt_block, *decrypt_block, *encrypt_book, *decrypt_book;
+};
+
+static const struct calls sides[SIDES] = {
+    [LIBRARY] = {planbook_expand_key, planbook_encrypt_block, planbook_decrypt_block,
+                 planbook_encrypt_book, planbook_decrypt_book},
+    [PLAIN] = {plain_expand_key, plain_encrypt_block, plain_decrypt_block,
+               plain_encrypt_book, plain_decrypt_book},
+    [PACKED] = {.encrypt_book = packed_encrypt_book},
+};
+
+/* Held to the vectors of the CLEFIA specification 1.0, section 2.5. */
+
+static const uint8_t vector_key[32] = {
+    0xff, 0xee, 0xdd, 0xcc, 0xbb, 0xaa, 0x99, 0x88, 0x77, 0x66, 0x55, 0x44, 0x33, 0x22, 0x11, 0x00,
+    0xf0, 0xe0, 0xd0, 0xc0, 0xb0, 0xa0, 0x90, 0x80, 0x70, 0x60, 0x50, 0x40, 0x30, 0x20, 0x10, 0x00,
+};
+static const uint8_t vector_clear[16] = {0, 1, 2, 3, 4, 5, 6, 7, 8, 9, 10, 11, 12, 13, 14, 15};
+static const uint8_t vector_encrypted[KEY_LENGTHS][16] = {
+    {0xde, 0x2b, 0xf2, 0xfd, 0x9b, 0x74, 0xaa, 0xcd,
+     0xf1, 0x29, 0x85, 0x55, 0x45, 0x94, 0x94, 0xfd},
+    {0xe2, 0x48, 0x2f, 0x64, 0x9f, 0x02, 0x8d, 0xc4,
+     0x80, 0xdd, 0xa1, 0x84, 0xfd, 0xe1, 0x81, 0xad},
+    {0xa1, 0x39, 0x78, 0x14, 0x28, 0x9d, 0xe8, 0x0c,
+     0x10, 0xda, 0x46, 0xd1, 0xfa, 0x48, 0xb3, 0x8a},
+};
+
+static void check_vectors(const struct calls *s)
+{
+    for (size_t k = 0; k < KEY_LENGTHS; k++)
+        for (uint64_t way = 1; way <= WAYS; way++) {
+            uint8_t out[16], back[16];
+            size_t key_len = 16 + 8 * k;
+            if (s->encrypt_block(vector_key, key_len, way, vector_clear, 16, out, 16) != 1
+                || s->decrypt_block(vector_key, key_len, way, out, 16, back, 16) != 1
+                || memcmp(out, vector_encrypted[k], 16) != 0 || memcmp(back, vector_clear, 16) != 0)
+                stop("a side does not give the published test vectors");
+        }
+}
+
+static void check_constants(void)
+{
+    for (size_t k = 0; k < KEY_LENGTHS; k++) {
+        static const size_t words[KEY_LENGTHS] = {60, 84, 92};
+        uint8_t ours[368], theirs[368];
+        size_t len = 4 * words[k];
+        if (planbook_constants(16 + 8 * k, ours, len) != words[k]
+            || plain_constants(16 + 8 * k, theirs, len) != words[k]
+            || memcmp(ours, theirs, len) != 0)
+            stop("the sides differ in the constants");
+    }
+}
+
+void check_sides(void)
+{
+    check_vectors(&sides[LIBRARY]);
+    check_vectors(&sides[PLAIN]);
+    check_constants();
+}
+
+/* A clear book: sheets of 1,024 records and one with the rest. */
+
+static void put_number(uint8_t *p, uint32_t n, int bytes)
+{
+    for (int i = bytes - 1; i >= 0; i--, n >>= 8)
+        p[i] = (uint8_t)n;
+}
+
+static void put_record(uint8_t *record, uint32_t trial, uint32_t place)
+{
+    memset(record, 0, 16);
+    put_number(record, trial, 4);
+    put_number(record + 4, 1 + place * 7919 % 100000, 4);
+    record[8] = (uint8_t)(1 + place % 4);
+    put_number(record + 9, 1 + place / 40, 2);
+    put_number(record + 11, 1 + place % 40, 2);
+}
+
+/* Answers the length. The largest book has five sheets; smaller ones have as many as they need. */
+static size_t make_book(uint8_t *book, size_t records)
+{
+    size_t most = PLANBOOK_MAX_SHEET_RECORDS;
+    size_t sheets = records == LARGEST_BOOK ? 5 : (records + most - 1) / most;
+    uint8_t *at = book + 4 + 24 * sheets;
+    put_number(book, 0x01000000 + (uint32_t)sheets, 4);
+    for (size_t s = 0; s < sheets; s++) {
+        uint8_t *entry = book + 4 + 24 * s;
+        uint32_t trial = (uint32_t)(41 + 10 * s);
+        size_t count = records / sheets + (s < records % sheets);
+        put_number(entry, trial, 4);
+        put_number(entry + 4, (uint32_t)count << 16, 4);
+        for (int i = 0; i < 16; i++)
+            entry[8 + i] = (uint8_t)(29 * i + 83 * (int)s + 7);
+        for (size_t i = 0; i < count; i++, at += 16)
+            put_record(at, trial, (uint32_t)i);
+    }
+    return (size_t)(at - book);
+}
+
+/* One call of a task, on buffers that are made ready once. */
+
+static uint8_t input[PLANBOOK_MAX_BOOK_BYTES], output[SIDES][PLANBOOK_MAX_BOOK_BYTES];
+static size_t input_len, output_len;
+
+void make_ready(const struct task *t)
+{
+    if (t->kind == EXPAND_KEY) {
+        output_len = 4 * (24 + t->key_len);
+        return;
+    }
+    memcpy(input, vector_clear, 16);
+    input_len = output_len = 16;
+    if (t->records > 0)
+        input_len = output_len = make_book(input, t->records);
+    if (t->kind == DECRYPT_BOOK) {
+        plain_encrypt_book(vector_key, t->key_len, PLANBOOK_WAY_WORD_TABLES, input, input_len,
+                           output[0], input_len);
+        memcpy(input, output[0], input_len);
+    }
+}
+
+uint64_t call(const struct task *t, enum side side)
+{
+    const struct calls *s = &sides[side];
+    uint8_t *out = output[side];
+    switch (t->kind) {
+    case EXPAND_KEY:
+        return s->expand_key(vector_key, t->key_len, t->way, out, output_len);
+    case ENCRYPT_BLOCK:
+        return s->encrypt_block(vector_key, t->key_len, t->way, input, input_len, out, output_len);
+    case DECRYPT_BLOCK:
+        return s->decrypt_block(vector_key, t->key_len, t->way, input, input_len, out, output_len);
+    case ENCRYPT_BOOK:
+        return s->encrypt_book(vector_key, t->key_len, t->way, input, input_len, out, output_len);
+    default:
+        return s->decrypt_book(vector_key, t->key_len, t->way, input, input_len, out, output_len);
+    }
+}
+
+void check_agreement(const struct task *t)
+{
+    memset(output, 0xa5, sizeof output);
+    uint64_t ours = call(t, LIBRARY);
+    int agree = ours != 0 && ours >> 32 == 0;
+    for (int side = PLAIN; side < SIDES && agree; side++)
+        agree = !has_side(t, side)
+             || (call(t, side) == ours && memcmp(output[LIBRARY], output[side], output_len) == 0);
+    if (!agree)
+        stop("the sides differ in what is timed");
+}

@@ -1,0 +1,87 @@
+#include "tasks.h"
+
+#include <stdio.h>
+#include <stdlib.h>
+#include <string.h>
+
+struct task tasks[TASKS];
+int turns = 41;
+const size_t growth_records[GROWTH_SIZES] = {511, 1022, 2044};
+
+static size_t task_count;
+
+void stop(const char *why)
+{
+    fprintf(stderr, "bench: %s\n", why);
+    exit(1);
+}
+
+const struct task *find_task(enum kind kind, size_t records, size_t key_len, uint64_t way)
+{
+    for (size_t i = 0; i < task_count; i++) {
+        const struct task *t = &tasks[i];
+        if (t->kind == kind && t->records == records && t->key_len == key_len && t->way == way)
+            return t;
+    }
+    stop("a task is missing");
+    return NULL;
+}
+
+int has_side(const struct task *t, enum side side)
+{
+    return side != PACKED || (t->kind == ENCRYPT_BOOK && t->records == LARGEST_BOOK && t->way != 2);
+}
+
+static void add_task(enum kind kind, size_t records, size_t key_len, uint64_t way)
+{
+    struct task *t = &tasks[task_count++];
+    t->kind = kind;
+    t->records = records;
+    t->key_len = key_len;
+    t->way = way;
+}
+
+void list_tasks(void)
+{
+    for (size_t key_len = 16; key_len <= 32; key_len += 8)
+        for (uint64_t way = 1; way <= WAYS; way++) {
+            add_task(EXPAND_KEY, 0, key_len, way);
+            add_task(ENCRYPT_BLOCK, 0, key_len, way);
+            add_task(DECRYPT_BLOCK, 0, key_len, way);
+            add_task(ENCRYPT_BOOK, SMALL_BOOK, key_len, way);
+            add_task(DECRYPT_BOOK, SMALL_BOOK, key_len, way);
+            add_task(ENCRYPT_BOOK, LARGEST_BOOK, key_len, way);
+            add_task(DECRYPT_BOOK, LARGEST_BOOK, key_len, way);
+        }
+    for (size_t i = 0; i < GROWTH_SIZES; i++) {
+        add_task(ENCRYPT_BOOK, growth_records[i], 16, 2);
+        add_task(DECRYPT_BOOK, growth_records[i], 16, 2);
+    }
+}
+
+static int by_size(const void *a, const void *b)
+{
+    double x = *(const double *)a, y = *(const double *)b;
+    return (x > y) - (x < y);
+}
+
+double median(const double *values)
+{
+    double sorted[MOST_TURNS];
+    memcpy(sorted, values, (size_t)turns * sizeof sorted[0]);
+    qsort(sorted, (size_t)turns, sizeof sorted[0], by_size);
+    return (sorted[(turns - 1) / 2] + sorted[turns / 2]) / 2;
+}
+
+double median_ratio(const double *above, const double *below)
+{
+    double ratios[MOST_TURNS];
+    for (int i = 0; i < turns; i++)
+        ratios[i] = above[i] / below[i];
+    return median(ratios);
+}
+
+double task_ns(const struct task *t, enum side side)
+{
+    return median(t->ns[side]) / (t->records > 0 ? (double)t->records : 1.0);
+}

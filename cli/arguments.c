@@ -1,0 +1,201 @@
+/* The command line. Usage and help are made from the same tables that the options are read by. */
+#include "cli.h"
+
+#include <stdio.h>
+#include <stdlib.h>
+#include <string.h>
+
+struct option_text {
+    const char *name;
+    const char *value; /* null for an option without one */
+    const char *meaning;
+};
+
+static const struct option_text options[OPTIONS] = {
+    [KEY] = {"--key", "FILE", "the key: 16, 24 or 32 raw bytes, as keygen makes them"},
+    [KEY_HEX] = {"--key-hex", "FILE", "the key in hexadecimal, with or without one line feed at the end"},
+    [WAY] = {"--way", "N", "1 byte tables, 2 word tables (default), 3 S-boxes computed; the result is the same"},
+    [STARTS] = {"--starts", "CSV", "the trials' start blocks, to repeat a book exactly"},
+    [BITS] = {"--bits", "N", "the length of the new key: 128 (default), 192 or 256"},
+    [CSV] = {"--csv", NULL, "give the plan as CSV; a name that ends in .csv does that by itself"},
+    [JSON] = {"--json", NULL, "give JSON, for other programs"},
+    [FORCE] = {"--force", NULL, "replace an existing output, whose mode stays"},
+};
+
+/* Help */
+
+static void print_synopsis(struct text *to, const struct verb *verb)
+{
+    text_print(to, "planbook %s", verb->name);
+    if (verb->takes[KEY])
+        text_print(to, verb->needs_key ? " --key FILE | --key-hex FILE" : " [--key FILE | --key-hex FILE]");
+    for (size_t i = WAY; i < OPTIONS; i++)
+        if (verb->takes[i])
+            text_print(to, " [%s%s%s]", options[i].name, options[i].value != NULL ? " " : "",
+                       options[i].value != NULL ? options[i].value : "");
+    text_print(to, " %s\n", verb->words);
+}
+
+static void print_options(struct text *to, const bool *takes)
+{
+    for (size_t i = 0; i < OPTIONS; i++)
+        if (takes == NULL || takes[i])
+            text_print(to, "  %-9s %-5s %s\n", options[i].name, options[i].value != NULL ? options[i].value : "", options[i].meaning);
+}
+
+static void print_usage(struct text *to, const struct verb *verbs, size_t count)
+{
+    for (size_t i = 0; i < count; i++) {
+        text_print(to, "%s", i == 0 ? "usage: " : "       ");
+        print_synopsis(to, &verbs[i]);
+    }
+    text_print(to, "       planbook help [VERB] | --help | --version\n\n");
+    for (size_t i = 0; i < count; i++)
+        text_print(to, "  %-7s %s\n", verbs[i].name, verbs[i].summary);
+    text_print(to, "\nA file that is not named, or named -, is standard input or output.\n\n");
+    print_options(to, NULL);
+    text_print(to, "\nExit status: 0 done; 1 refused by the library, with the check's number, or nothing found; 2 wrong usage, or a\n"
+                   "file error. The manual page says more: man planbook.\n");
+}
+
+static void write_and_release(struct text *text)
+{
+    struct output output = {NULL, text_end(text), false, KEEP};
+    write_outputs(&output, 1);
+    release(&output.bytes);
+}
+
+static void help(const struct verb *verbs, size_t count)
+{
+    struct text text = {{NULL, 0}, 0};
+    print_usage(&text, verbs, count);
+    write_and_release(&text);
+}
+
+static void help_with(const struct verb *verb)
+{
+    struct text text = {{NULL, 0}, 0};
+    text_print(&text, "usage: ");
+    print_synopsis(&text, verb);
+    text_print(&text, "\n%s.\n\n", verb->summary);
+    print_options(&text, verb->takes);
+    write_and_release(&text);
+}
+
+void fail_without_verb(const struct verb *verbs, size_t count)
+{
+    struct text text = {{NULL, 0}, 0};
+    print_usage(&text, verbs, count);
+    fwrite(text.room.at, 1, text.len, stderr);
+    exit(STATUS_ERROR);
+}
+
+static void print_version(void)
+{
+    struct text text = {{NULL, 0}, 0};
+    text_print(&text, "planbook %s\n", PLANBOOK_VERSION);
+    write_and_release(&text);
+}
+
+/* Reading */
+
+static const struct verb *find_verb(const struct verb *verbs, size_t count, const char *name)
+{
+    for (size_t i = 0; i < count; i++)
+        if (strcmp(verbs[i].name, name) == 0)
+            return &verbs[i];
+    fail("%s is not a verb; planbook help lists them", name);
+}
+
+static bool asks_for_help(const char *word)
+{
+    return strcmp(word, "--help") == 0 || strcmp(word, "-h") == 0;
+}
+
+/* Options are written out whole, with the value after = or as the next word. Answers how many words were taken. */
+static int take_option(const struct verb *verb, struct arguments *given, char **words)
+{
+    const char *equals = strchr(words[0], '=');
+    size_t len = equals != NULL ? (size_t)(equals - words[0]) : strlen(words[0]);
+    size_t i = 0;
+    while (i < OPTIONS && (strlen(options[i].name) != len || memcmp(options[i].name, words[0], len) != 0))
+        i++;
+    if (i == OPTIONS || !verb->takes[i])
+        fail("%s has no option %.*s; planbook %s --help lists them", verb->name, (int)len, words[0], verb->name);
+    if (given->value[i] != NULL)
+        fail("%s is given twice", options[i].name);
+    if (options[i].value == NULL && equals != NULL)
+        fail("%s takes no value", options[i].name);
+    given->value[i] = options[i].value == NULL ? "" : equals != NULL ? equals + 1 : words[1];
+    if (given->value[i] == NULL)
+        fail("%s needs a value: %s", options[i].name, options[i].value);
+    return options[i].value == NULL || equals != NULL ? 1 : 2;
+}
+
+static void expect_key(const struct verb *verb, const struct arguments *given)
+{
+    if (given->value[KEY] != NULL && given->value[KEY_HEX] != NULL)
+        fail("--key and --key-hex are both given, but a key is read from one file");
+    if (verb->needs_key && given->value[KEY] == NULL && given->value[KEY_HEX] == NULL)
+        fail("%s needs a key, by either --key or --key-hex; planbook keygen makes one", verb->name);
+}
+
+/* The words after the verb. Answers false where they ask for help. */
+static bool read_words(const struct verb *verb, char **words, struct arguments *given)
+{
+    size_t count = 0;
+    bool options_end = false;
+    while (*words != NULL) {
+        bool is_option = !options_end && words[0][0] == '-' && words[0][1] != '\0';
+        if (is_option && asks_for_help(*words))
+            return false;
+        if (is_option && strcmp(*words, "--") == 0) {
+            options_end = true;
+            words++;
+        } else if (is_option) {
+            words += take_option(verb, given, words);
+        } else {
+            if (count == verb->most_words)
+                fail("%s is one word too many: %s takes %s", *words, verb->name, verb->words);
+            given->words[count++] = *words++;
+        }
+    }
+    expect_key(verb, given);
+    if (count < verb->least_words)
+        fail("%s needs more words: %s", verb->name, verb->words);
+    return true;
+}
+
+static void expect_end(char **words)
+{
+    if (words[1] != NULL)
+        fail("%s is one word too many after %s", words[1], words[0]);
+}
+
+/* Words that are no verb of the table; answers whether the first was one of them. */
+static bool answer_about_command(const struct verb *verbs, size_t count, char **words)
+{
+    bool is_help = strcmp(words[0], "help") == 0, is_version = strcmp(words[0], "--version") == 0;
+    if (!is_help && !is_version && !asks_for_help(words[0]))
+        return false;
+    bool about_verb = is_help && words[1] != NULL;
+    expect_end(words + about_verb);
+    if (is_version)
+        print_version();
+    else if (about_verb)
+        help_with(find_verb(verbs, count, words[1]));
+    else
+        help(verbs, count);
+    return true;
+}
+
+const struct verb *read_arguments(const struct verb *verbs, size_t count, char **words, struct arguments *given)
+{
+    if (answer_about_command(verbs, count, words))
+        return NULL;
+    const struct verb *verb = find_verb(verbs, count, words[0]);
+    if (read_words(verb, words + 1, given))
+        return verb;
+    help_with(verb);
+    return NULL;
+}

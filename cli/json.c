@@ -1,0 +1,74 @@
+/*
+ * Accepted books as JSON: one object or array, with a line for each sheet and each record. All values are numbers, or strings
+ * of letters and digits, so nothing has to be escaped.
+ */
+#include "cli.h"
+
+static const char *comma(size_t i, size_t count)
+{
+    return i + 1 < count ? "," : "";
+}
+
+static void print_record(struct text *to, const struct sheet *sheet, size_t place)
+{
+    struct record r = read_record(sheet, place);
+    text_print(to, "{\"trial\": %u, \"place\": %zu, \"entry\": %u, \"replicate\": %u, \"row\": %u, \"column\": %u}", (unsigned)r.trial,
+               place, (unsigned)r.entry, (unsigned)r.replicate, (unsigned)r.row, (unsigned)r.column);
+}
+
+static void print_contents(struct text *to, const struct sheet *sheets, size_t n)
+{
+    text_print(to, " \"sheets\": [\n");
+    for (size_t i = 0; i < n; i++) {
+        text_print(to, "  {\"trial\": %u, \"count\": %u, \"start_block\": \"", (unsigned)sheets[i].trial, (unsigned)sheets[i].count);
+        text_print_hex(to, sheets[i].start_block, PLANBOOK_BLOCK_BYTES);
+        text_print(to, "\"}%s\n", comma(i, n));
+    }
+    text_print(to, " ]");
+}
+
+struct bytes show_json(struct bytes book)
+{
+    struct sheet sheets[PLANBOOK_MAX_SHEETS];
+    size_t n = read_sheets(book, sheets);
+    bool sealed = book.at[0] == PLANBOOK_SEALED;
+    struct text text = {{NULL, 0}, 0};
+    text_print(&text, "{\"kind\": \"%s\", \"bytes\": %zu,\n", sealed ? "sealed" : "clear", book.len);
+    print_contents(&text, sheets, n);
+    if (!sealed) {
+        text_print(&text, ",\n \"records\": [\n");
+        for (size_t i = 0; i < n; i++)
+            for (size_t place = 0; place < sheets[i].count; place++) {
+                text_print(&text, "  ");
+                print_record(&text, &sheets[i], place);
+                text_print(&text, "%s\n", i + 1 < n ? "," : comma(place, sheets[i].count));
+            }
+        text_print(&text, " ]");
+    }
+    text_print(&text, "\n}\n");
+    return text_end(&text);
+}
+
+struct bytes labels_json(struct bytes book)
+{
+    struct sheet sheets[PLANBOOK_MAX_SHEETS];
+    size_t n = read_sheets(book, sheets);
+    struct text text = {{NULL, 0}, 0};
+    text_print(&text, "[\n");
+    for (size_t i = 0; i < n; i++)
+        for (size_t place = 0; place < sheets[i].count; place++) {
+            text_print(&text, " {\"trial\": %u, \"place\": %zu, \"label\": \"", (unsigned)sheets[i].trial, place);
+            text_print_hex(&text, sheets[i].records + PLANBOOK_RECORD_BYTES * place, PLANBOOK_RECORD_BYTES);
+            text_print(&text, "\"}%s\n", i + 1 < n ? "," : comma(place, sheets[i].count));
+        }
+    text_print(&text, "]\n");
+    return text_end(&text);
+}
+
+struct bytes record_json(const struct sheet *sheet, size_t place)
+{
+    struct text text = {{NULL, 0}, 0};
+    print_record(&text, sheet, place);
+    text_print(&text, "\n");
+    return text_end(&text);
+}

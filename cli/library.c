@@ -1,0 +1,45 @@
+/* The calls of the library. It alone decides whether a key, a way or a book is in order. */
+#include "cli.h"
+
+#include <string.h>
+
+uint32_t call_library(book_call *call, struct bytes key, uint64_t way, struct bytes book, struct bytes out)
+{
+    uint64_t answer = call(key.at, key.len, way, book.at, book.len, out.at, out.len);
+    planbook_wipe_stack(); /* the key and the words made of it lie there */
+    return planbook_check(answer);
+}
+
+/* Checks 5 to 10 do not depend on the key, and for a clear book 11 does not either, so any key serves. */
+static uint32_t check_by(book_call *call, struct bytes book)
+{
+    static uint8_t any_key[PLANBOOK_KEY128_BYTES];
+    struct bytes dropped = new_bytes(book.len);
+    uint32_t check = call_library(call, (struct bytes){any_key, sizeof any_key}, PLANBOOK_WAY_WORD_TABLES, book, dropped);
+    release(&dropped);
+    return check;
+}
+
+uint32_t check_clear_book(struct bytes book)
+{
+    return check_by(planbook_encrypt_book, book);
+}
+
+/* Check 11 comes last and is about the key here: a book that gets so far has passed all that can be seen without one. */
+uint32_t check_sealed_book(struct bytes book)
+{
+    uint32_t check = check_by(planbook_decrypt_book, book);
+    return check == PLANBOOK_CHECK_RECORD ? PLANBOOK_ACCEPTED : check;
+}
+
+uint32_t check_record(uint32_t trial, const uint8_t *record)
+{
+    struct bytes book = new_bytes(PLANBOOK_HEAD_BYTES + PLANBOOK_ENTRY_BYTES + PLANBOOK_RECORD_BYTES);
+    memset(book.at, 0, book.len);
+    put_head(book.at, 1);
+    put_entry(book.at + PLANBOOK_HEAD_BYTES, trial, 1);
+    memcpy(book.at + PLANBOOK_HEAD_BYTES + PLANBOOK_ENTRY_BYTES, record, PLANBOOK_RECORD_BYTES);
+    uint32_t check = check_clear_book(book);
+    release(&book);
+    return check;
+}

@@ -1,0 +1,129 @@
+/*
+ * What the library refuses, in the words of the user's plan. The library has decided, and its number stands at the end of the
+ * message; here the bytes are only looked through for what it must have met. A check that is answered tells that the ones
+ * before it passed, so what they ask for is there to be read.
+ */
+#include "cli.h"
+
+#include <stdio.h>
+
+static size_t contents_bytes(struct bytes book)
+{
+    return PLANBOOK_HEAD_BYTES + PLANBOOK_ENTRY_BYTES * sheet_count(book);
+}
+
+static void refuse_length(const char *name, struct bytes book)
+{
+    if (book.len < PLANBOOK_MIN_BOOK_BYTES)
+        refuse(PLANBOOK_CHECK_BOOK_LENGTH, "%s has %zu bytes, and a plan book has at least %d", name, book.len,
+               PLANBOOK_MIN_BOOK_BYTES);
+    refuse(PLANBOOK_CHECK_BOOK_LENGTH, "%s is longer than a plan book can be, which is %s bytes", name,
+           grouped(PLANBOOK_MAX_BOOK_BYTES));
+}
+
+static void refuse_kind(const char *name, struct bytes book, uint8_t wanted)
+{
+    if (book.at[1] == 0 && book.at[0] == PLANBOOK_SEALED)
+        refuse(PLANBOOK_CHECK_BOOK_KIND, "%s is sealed already, and a clear book is needed here", name);
+    if (book.at[1] == 0 && book.at[0] == PLANBOOK_CLEAR)
+        refuse(PLANBOOK_CHECK_BOOK_KIND, "%s is a clear book, and a sealed one is needed here", name);
+    if (is_plan(book))
+        refuse(PLANBOOK_CHECK_BOOK_KIND, "%s is text, and a plan book is needed here", name);
+    refuse(PLANBOOK_CHECK_BOOK_KIND, "%s is no %s plan book: it begins with %02x %02x and not with %02x 00", name,
+           wanted == PLANBOOK_SEALED ? "sealed" : "clear", book.at[0], book.at[1], wanted);
+}
+
+static void refuse_entry(const char *name, struct bytes book)
+{
+    uint32_t before = 0;
+    for (size_t i = 0; i < sheet_count(book); i++) {
+        struct sheet sheet = read_entry(book, i);
+        unsigned trial = (unsigned)sheet.trial;
+        if (sheet.trial == 0)
+            refuse(PLANBOOK_CHECK_ENTRY, "%s, sheet %zu: trial 0, but trials begin at 1", name, i + 1);
+        if (sheet.trial <= before)
+            refuse(PLANBOOK_CHECK_ENTRY, "%s, sheet %zu: trial %u comes after trial %u, but trials must rise", name, i + 1, trial,
+                   (unsigned)before);
+        if (sheet.count < 1 || sheet.count > PLANBOOK_MAX_SHEET_RECORDS)
+            refuse(PLANBOOK_CHECK_ENTRY, "%s: trial %u has %s plots, and a trial has 1 to %s", name, trial, grouped(sheet.count),
+                   grouped(PLANBOOK_MAX_SHEET_RECORDS));
+        if (!entry_has_zeros(book, i))
+            refuse(PLANBOOK_CHECK_ENTRY, "%s: the two reserved bytes of trial %u in the contents are not zero", name, trial);
+        before = sheet.trial;
+    }
+    refuse(PLANBOOK_CHECK_ENTRY, "%s: %s", name, planbook_check_sentence(PLANBOOK_CHECK_ENTRY));
+}
+
+static void refuse_body_length(const char *name, struct bytes book)
+{
+    size_t records = 0;
+    for (size_t i = 0; i < sheet_count(book); i++)
+        records += read_entry(book, i).count;
+    size_t said = contents_bytes(book) + PLANBOOK_RECORD_BYTES * records;
+    refuse(PLANBOOK_CHECK_BODY_LENGTH, "%s has %s bytes, but its contents say %s: %s", name, grouped(book.len), grouped(said),
+           book.len < said ? "its end is missing" : "something was added");
+}
+
+const char *record_fault(const struct record *record, uint32_t trial)
+{
+    static char text[80];
+    if (trial == 0)
+        return "trial 0, but trials begin at 1";
+    if (record->entry == 0)
+        return "entry 0, but entries begin at 1";
+    if (record->trial != trial)
+        snprintf(text, sizeof text, "a record of trial %u in the sheet of trial %u", (unsigned)record->trial, (unsigned)trial);
+    else if (record->replicate < 1 || record->replicate > 4)
+        snprintf(text, sizeof text, "replicate %u, but a replicate is 1 to 4", (unsigned)record->replicate);
+    else
+        return "the last three bytes of the record are not zero";
+    return text;
+}
+
+/* The first record that the library refuses by itself. */
+static void refuse_record(const char *name, struct bytes book)
+{
+    struct sheet sheets[PLANBOOK_MAX_SHEETS];
+    size_t n = read_sheets(book, sheets);
+    for (size_t i = 0; i < n; i++)
+        for (size_t place = 0; place < sheets[i].count; place++)
+            if (check_record(sheets[i].trial, sheets[i].records + PLANBOOK_RECORD_BYTES * place) != PLANBOOK_ACCEPTED) {
+                struct record record = read_record(&sheets[i], place);
+                refuse(PLANBOOK_CHECK_RECORD, "%s, trial %u, place %zu: %s", name, (unsigned)sheets[i].trial, place,
+                       record_fault(&record, sheets[i].trial));
+            }
+    refuse(PLANBOOK_CHECK_RECORD, "%s: %s", name, planbook_check_sentence(PLANBOOK_CHECK_RECORD));
+}
+
+/* Checks 5 to 10, for which clear and sealed books differ in their kind alone. */
+static void refuse_form(const char *name, struct bytes book, uint32_t check, uint8_t wanted)
+{
+    switch (check) {
+    case PLANBOOK_CHECK_BOOK_LENGTH: refuse_length(name, book); break;
+    case PLANBOOK_CHECK_BOOK_KIND: refuse_kind(name, book, wanted); break;
+    case PLANBOOK_CHECK_SHEETS:
+        refuse(check, "%s says that it has %s trials, and a plan book has at most %d", name, grouped(sheet_count(book)),
+               PLANBOOK_MAX_SHEETS);
+    case PLANBOOK_CHECK_CONTENTS_CUT:
+        refuse(check, "%s has %s bytes, but the contents of its %zu trials need %s: its end is missing", name, grouped(book.len),
+               sheet_count(book), grouped(contents_bytes(book)));
+    case PLANBOOK_CHECK_ENTRY: refuse_entry(name, book); break;
+    case PLANBOOK_CHECK_BODY_LENGTH: refuse_body_length(name, book); break;
+    }
+}
+
+void refuse_clear_book(const char *name, struct bytes book, uint32_t check)
+{
+    refuse_form(name, book, check, PLANBOOK_CLEAR);
+    if (check == PLANBOOK_CHECK_RECORD)
+        refuse_record(name, book);
+    refuse(check, "%s: %s", name, planbook_check_sentence(check));
+}
+
+void refuse_sealed_book(const char *name, struct bytes book, uint32_t check)
+{
+    refuse_form(name, book, check, PLANBOOK_SEALED);
+    if (check == PLANBOOK_CHECK_RECORD)
+        refuse(check, "%s does not open under this key: most likely it was sealed under another one, or changed since", name);
+    refuse(check, "%s: %s", name, planbook_check_sentence(check));
+}

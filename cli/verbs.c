@@ -1,0 +1,284 @@
+/* What each verb does. */
+#define _POSIX_C_SOURCE 200809L
+#include "cli.h"
+
+#include <errno.h>
+#include <stdlib.h>
+#include <string.h>
+#include <strings.h>
+#include <unistd.h>
+
+/* Far above any plan that fits a book, so that what is too long is refused with what it holds and not here. */
+#define CSV_LIMIT ((size_t)1 << 20)
+
+/* What the options say */
+
+static struct bytes given_key(const struct arguments *given)
+{
+    return given->value[KEY] != NULL ? read_key(given->value[KEY]) : read_hex_key(given->value[KEY_HEX]);
+}
+
+static const char *key_title(const struct arguments *given)
+{
+    return input_title(given->value[KEY] != NULL ? given->value[KEY] : given->value[KEY_HEX]);
+}
+
+/* A decimal number of up to 64 bits; what it must be is for others to say. */
+static uint64_t read_number(const char *what, const char *text)
+{
+    errno = 0;
+    unsigned long long number = strtoull(text, NULL, 10);
+    if (errno != 0 || *text == '\0' || text[strspn(text, "0123456789")] != '\0')
+        fail("%s takes a number: %s", what, text);
+    return number;
+}
+
+static uint64_t given_way(const struct arguments *given)
+{
+    return given->value[WAY] != NULL ? read_number("--way", given->value[WAY]) : PLANBOOK_WAY_WORD_TABLES;
+}
+
+static bool gives_plan(const struct arguments *given)
+{
+    const char *name = given->words[1];
+    size_t len = name == NULL ? 0 : strlen(name);
+    return given->value[CSV] != NULL || (len >= 4 && strcasecmp(name + len - 4, ".csv") == 0);
+}
+
+/* Inputs and outputs */
+
+static void expect_no_terminal(const char *output)
+{
+    if (is_standard(output) && isatty(STDOUT_FILENO))
+        fail("books and keys are not text: name an output file, or send standard output somewhere else than to a terminal");
+}
+
+static enum existing given_force(const struct arguments *given)
+{
+    return given->value[FORCE] != NULL ? REPLACE : KEEP;
+}
+
+static void write_one(const char *name, struct bytes bytes, bool secret, enum existing existing)
+{
+    struct output output = {name, bytes, secret, existing};
+    write_outputs(&output, 1);
+    release(&bytes);
+}
+
+static struct bytes read_csv(const char *name)
+{
+    struct bytes text = read_input(name, CSV_LIMIT);
+    if (text.len > CSV_LIMIT)
+        fail("%s: too long for a plan, above %s bytes", input_title(name), grouped(CSV_LIMIT));
+    return text;
+}
+
+static struct bytes read_book(const char *name)
+{
+    return read_input(name, PLANBOOK_MAX_BOOK_BYTES);
+}
+
+static struct bytes clear_book(const char *name)
+{
+    struct bytes book = read_book(name);
+    uint32_t check = check_clear_book(book);
+    if (check != PLANBOOK_ACCEPTED)
+        refuse_clear_book(input_title(name), book, check);
+    return book;
+}
+
+static struct bytes sealed_book(const char *name)
+{
+    struct bytes book = read_book(name);
+    uint32_t check = check_sealed_book(book);
+    if (check != PLANBOOK_ACCEPTED)
+        refuse_sealed_book(input_title(name), book, check);
+    return book;
+}
+
+/* The plan that pack, check and seal are given, with start blocks from a file or drawn. */
+static struct bytes packed_plan(struct bytes plan, const char *name, const char *starts_name)
+{
+    struct bytes starts = {NULL, 0};
+    if (starts_name != NULL)
+        starts = read_csv(starts_name);
+    struct bytes book = pack_plan(plan, input_title(name), starts_name != NULL ? &starts : NULL, input_title(starts_name));
+    release(&starts);
+    return book;
+}
+
+/* A keyed call; what the library refuses of key and way is told here, what it refuses of the book by refuse_book. */
+static struct bytes recode(const struct arguments *given, book_call *call, struct bytes book,
+                           void refuse_book(const char *, struct bytes, uint32_t))
+{
+    uint64_t way = given_way(given);
+    struct bytes key = given_key(given);
+    struct bytes out = new_bytes(book.len);
+    uint32_t check = call_library(call, key, way, book, out);
+    if (check == PLANBOOK_CHECK_KEY_LENGTH)
+        refuse(check, "the key in %s is %s bytes long, not 16, 24 or 32", key_title(given), grouped(key.len));
+    if (check == PLANBOOK_CHECK_WAY)
+        refuse(check, "--way %s: the ways are 1, 2 and 3", given->value[WAY]);
+    release(&key);
+    if (check != PLANBOOK_ACCEPTED)
+        refuse_book(input_title(given->words[0]), book, check);
+    return out;
+}
+
+static struct bytes opened(const struct arguments *given, struct bytes book)
+{
+    return recode(given, planbook_decrypt_book, book, refuse_sealed_book);
+}
+
+/* Verbs */
+
+void run_keygen(const struct arguments *given)
+{
+    const char *text = given->value[BITS];
+    uint64_t bits = text == NULL ? 8 * PLANBOOK_KEY128_BYTES : read_number("--bits", text);
+    if (bits != 8 * PLANBOOK_KEY128_BYTES && bits != 8 * PLANBOOK_KEY192_BYTES && bits != 8 * PLANBOOK_KEY256_BYTES)
+        fail("--bits %s: a key has 128, 192 or 256 bits", text);
+    expect_no_terminal(given->words[0]);
+    write_one(given->words[0], draw_key((size_t)bits / 8), true, KEEP_KEY);
+}
+
+void run_check(const struct arguments *given)
+{
+    struct sheet sheets[PLANBOOK_MAX_SHEETS];
+    struct bytes plan = read_csv(given->words[0]);
+    struct bytes book = packed_plan(plan, given->words[0], given->value[STARTS]);
+    size_t records = 0, trials = read_sheets(book, sheets);
+    for (size_t i = 0; i < trials; i++)
+        records += sheets[i].count;
+    struct text text = {{NULL, 0}, 0};
+    text_print(&text, "trials %zu, plots %zu, bytes of the book %zu\n", trials, records, book.len);
+    release(&plan);
+    release(&book);
+    write_one(NULL, text_end(&text), false, KEEP);
+}
+
+void run_seal(const struct arguments *given)
+{
+    const char *name = given->words[0];
+    expect_no_terminal(given->words[1]);
+    struct bytes book = read_input(name, CSV_LIMIT);
+    bool from_plan = is_plan(book);
+    if (from_plan) {
+        struct bytes plan = book;
+        if (plan.len > CSV_LIMIT)
+            fail("%s: too long for a plan, above %s bytes", input_title(name), grouped(CSV_LIMIT));
+        book = packed_plan(plan, name, NULL);
+        release(&plan);
+    }
+    struct bytes sealed = recode(given, planbook_encrypt_book, book, refuse_clear_book);
+    if (!from_plan)
+        warn_of_start_blocks(input_title(name), book);
+    release(&book);
+    write_one(given->words[1], sealed, false, given_force(given));
+}
+
+void run_open(const struct arguments *given)
+{
+    bool to_plan = gives_plan(given);
+    if (!to_plan)
+        expect_no_terminal(given->words[1]);
+    struct bytes sealed = read_book(given->words[0]);
+    struct bytes book = opened(given, sealed);
+    release(&sealed);
+    if (!to_plan) {
+        write_one(given->words[1], book, true, given_force(given));
+        return;
+    }
+    struct bytes plan = unpack_plan(book);
+    release(&book);
+    write_one(given->words[1], plan, true, given_force(given));
+}
+
+/* A book that says it is sealed is judged as one, any other as a clear one. With a key it must be a sealed one. */
+void run_show(const struct arguments *given)
+{
+    struct bytes book = read_book(given->words[0]);
+    if (given->value[KEY] != NULL || given->value[KEY_HEX] != NULL) {
+        struct bytes sealed = book;
+        book = opened(given, sealed);
+        release(&sealed);
+    }
+    bool sealed = book.len > 0 && book.at[0] == PLANBOOK_SEALED;
+    uint32_t check = sealed ? check_sealed_book(book) : check_clear_book(book);
+    if (check != PLANBOOK_ACCEPTED)
+        (sealed ? refuse_sealed_book : refuse_clear_book)(input_title(given->words[0]), book, check);
+    write_one(given->words[1], (given->value[JSON] != NULL ? show_json : show_table)(book), !sealed, given_force(given));
+    release(&book);
+}
+
+void run_labels(const struct arguments *given)
+{
+    struct bytes book = sealed_book(given->words[0]);
+    write_one(given->words[1], (given->value[JSON] != NULL ? labels_json : labels_table)(book), false, given_force(given));
+    release(&book);
+}
+
+/* A label is the sealed record: found in the sealed book, at the same place in the opened one. */
+static void find_label(const struct arguments *given, const struct sheet *sheets, size_t n, size_t *sheet, size_t *place)
+{
+    uint8_t label[PLANBOOK_RECORD_BYTES];
+    const char *word = given->words[1];
+    if (!read_hex((struct bytes){(uint8_t *)word, strlen(word)}, label, sizeof label))
+        fail("%s is not a label, which has %d hexadecimal digits", word, 2 * PLANBOOK_RECORD_BYTES);
+    for (*sheet = 0; *sheet < n; ++*sheet)
+        for (*place = 0; *place < sheets[*sheet].count; ++*place)
+            if (memcmp(sheets[*sheet].records + PLANBOOK_RECORD_BYTES * *place, label, sizeof label) == 0)
+                return;
+    refuse(PLANBOOK_ACCEPTED, "%s has no record with the label %s", input_title(given->words[0]), word);
+}
+
+static void find_place(const struct arguments *given, const struct sheet *sheets, size_t n, size_t *sheet, size_t *place)
+{
+    uint64_t trial = read_number("TRIAL", given->words[1]), number = read_number("PLACE", given->words[2]);
+    for (*sheet = 0; *sheet < n && sheets[*sheet].trial != trial;)
+        ++*sheet;
+    if (*sheet == n)
+        refuse(PLANBOOK_ACCEPTED, "%s has no trial %s", input_title(given->words[0]), given->words[1]);
+    if (number >= sheets[*sheet].count)
+        refuse(PLANBOOK_ACCEPTED, "trial %s of %s has the places 0 to %u, and not %s", given->words[1], input_title(given->words[0]),
+               (unsigned)sheets[*sheet].count - 1, given->words[2]);
+    *place = (size_t)number;
+}
+
+void run_find(const struct arguments *given)
+{
+    struct sheet sheets[PLANBOOK_MAX_SHEETS];
+    size_t sheet, place;
+    struct bytes sealed = sealed_book(given->words[0]);
+    size_t n = read_sheets(sealed, sheets);
+    (given->words[2] == NULL ? find_label : find_place)(given, sheets, n, &sheet, &place);
+    struct bytes book = opened(given, sealed);
+    release(&sealed);
+    read_sheets(book, sheets);
+    write_one(NULL, (given->value[JSON] != NULL ? record_json : record_table)(&sheets[sheet], place), true, KEEP);
+    release(&book);
+}
+
+void run_pack(const struct arguments *given)
+{
+    expect_no_terminal(given->words[1]);
+    struct bytes plan = read_csv(given->words[0]);
+    struct bytes book = packed_plan(plan, given->words[0], given->value[STARTS]);
+    release(&plan);
+    write_one(given->words[1], book, true, given_force(given));
+}
+
+void run_unpack(const struct arguments *given)
+{
+    enum existing existing = given_force(given);
+    const char *starts_name = given->value[STARTS];
+    if (starts_name != NULL && is_standard(given->words[1]) && is_standard(starts_name))
+        fail("plan and start blocks cannot both go to standard output");
+    struct bytes book = clear_book(given->words[0]);
+    struct output outputs[] = {{given->words[1], unpack_plan(book), true, existing},
+                               {starts_name, unpack_starts(book), true, existing}};
+    write_outputs(outputs, starts_name != NULL ? 2 : 1);
+    release(&book);
+    release(&outputs[0].bytes);
+    release(&outputs[1].bytes);
+}

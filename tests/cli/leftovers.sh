@@ -1,0 +1,65 @@
+# Part of tests/cli/run: no key, expanded key, clear record or line of a plan is left in memory when the command ends.
+#
+# tests/cli/faults.c looks through all writable memory at the very end. That it can find something is seen in tests/cli/bugs,
+# where commands that do not wipe are caught by it.
+
+# Replicate, row and column of the sample record as the command holds them in numbers; the first two round keys of key128 as
+# RFC 6114 prints them (f3e6cef9 8df75e38), in the order of bytes that the processor has; the sample's line of a plan as text.
+numbers=020000000c00000003000000
+round_keys=f9cee6f3385ef78d
+line_text=34312c372c322c31322c33 # 41,7,2,12,3
+row_text=2020202020202020203720202020202020202032202020203132 # the row of show from the entry's column on
+
+# nothing_left WHAT STATUS HEX ARGUMENTS..
+nothing_left() {
+    what=$1
+    wanted=$2
+    export SCAN="$3"
+    shift 3
+    export LD_BIND_NOW=1 # the search for functions at their first call would overwrite parts of the stack
+    with_fault "${when:-scan},count" "$@"
+    judge "$what after planbook $*" "$wanted" "nothing left behind" $?
+    unset SCAN LD_BIND_NOW
+    rm -f x y x.csv
+}
+
+test_leftovers() {
+    for verb in "seal --key key128 clear" "open --key key128 sealed128" "show --key key128 sealed128" "seal --key key128 plan.csv" \
+        "open --csv --key key128 sealed128" "find --key key128 sealed128 41 0"; do
+        nothing_left "the key" 0 $key128 $verb
+        nothing_left "round keys" 0 $round_keys $verb
+        nothing_left "the clear record" 0 $record $verb
+        nothing_left "the clear record's numbers" 0 $numbers $verb
+    done
+    for verb in "pack plan.csv x" "unpack --starts y clear x" "unpack clear" "seal --key key128 plan.csv x" "check plan.csv" \
+        "open --key key128 sealed128 x.csv"; do
+        nothing_left "the plan's line" 0 $line_text $verb
+        nothing_left "the clear record" 0 $record $verb
+        nothing_left "the clear record's numbers" 0 $numbers $verb
+    done
+    nothing_left "the row of the table" 0 $row_text show clear
+    nothing_left "the clear record's numbers" 0 $numbers show clear
+    nothing_left "the key's digits" 0 "$(printf %s $key128 | od -An -v -tx1 | tr -d ' \n')" open --key-hex hex128 sealed128 x
+    nothing_left "a new key" 0 0102030405060708090a0b0c0d0e0f10 keygen x
+    # whatever else was on the stack
+    when=scan,mark
+    for verb in "show clear" "open --key key128 sealed128 x"; do
+        nothing_left "a mark on the stack" 0 a5a4a3a2a1a09f9e9d9c9b9a99989796 $verb
+    done
+    # the key is gone as soon as it has been used
+    when=early-scan
+    for verb in "seal --key key128 clear x" "seal --key key128 plan.csv x" "open --key key128 sealed128 x" "show --key key128 sealed128 x"; do
+        nothing_left "the key, while the output is written," 0 $key128 $verb
+        nothing_left "round keys, while the output is written," 0 $round_keys $verb
+    done
+    when=scan
+    # the same where the command ends early
+    nothing_left "the key" 1 $key192 open --key key192 sealed128 x
+    nothing_left "the key" 2 $key128 open --key key128 sealed128 missing/x
+    nothing_left "the clear record" 2 $record open --key key128 sealed128 missing/x
+    unhex 01000001 0000002900020000$start $record 000000290000000705000c0003000000 >damaged
+    nothing_left "the clear record" 1 $record seal --key key128 damaged x
+    { cat plan.csv; echo 41,x,2,12,4; } >damaged.csv
+    nothing_left "the plan's line" 2 $line_text seal --key key128 damaged.csv x
+    nothing_left "the clear record's numbers" 2 $numbers check damaged.csv
+}

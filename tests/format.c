@@ -1,0 +1,160 @@
+/*
+ * The worked book of docs/FORMAT.md: its fields, and its bytes against the library and the reference.
+ *
+ *   format FORMAT.md KEY.hex
+ */
+#include "compare.h"
+#include "library.h"
+
+#include <stdio.h>
+#include <stdlib.h>
+#include <string.h>
+
+enum { BOOK_BYTES = 44, LINE_BYTES = 400 };
+
+typedef struct {
+    size_t len;
+    uint8_t bytes[BOOK_BYTES];
+} byte_row;
+
+typedef struct {
+    size_t offset, len;
+    const char *name;
+} field;
+
+/* The fields that the page has to name, clear and sealed. */
+static const field clear_fields[] = {
+    {0, 1, "head: kind of book"},
+    {1, 1, "head: always zero"},
+    {2, 2, "head: number of sheets"},
+    {4, 4, "contents entry: trial"},
+    {8, 2, "contents entry: record count"},
+    {10, 2, "contents entry: reserved"},
+    {12, 16, "contents entry: start block"},
+    {28, 4, "record: trial"},
+    {32, 4, "record: entry"},
+    {36, 1, "record: replicate"},
+    {37, 2, "record: row"},
+    {39, 2, "record: column"},
+    {41, 3, "record: reserved"},
+};
+enum {
+    CLEAR_FIELDS = sizeof clear_fields / sizeof clear_fields[0],
+    CONTENTS_FIELDS = 7, /* of head and contents, which both books have */
+    SEALED_FIELDS = CONTENTS_FIELDS + 1
+};
+static const field sealed_record = {28, 16, "sealed record"};
+
+static FILE *page;
+static char line[LINE_BYTES];
+
+/* The next line that begins so. */
+static const char *find_line(const char *start)
+{
+    while (fgets(line, sizeof line, page) != NULL)
+        if (strncmp(line, start, strlen(start)) == 0)
+            return line + strlen(start);
+    fail("the page has no further line that begins with '%s'", start);
+    return NULL;
+}
+
+/* Bytes of two hexadecimal digits, with or without spaces, up to anything else. */
+static byte_row read_bytes(const char *text)
+{
+    byte_row row = {0, {0}};
+    unsigned value;
+    int used;
+    while (row.len < BOOK_BYTES && sscanf(text, " %2x%n", &value, &used) == 1) {
+        row.bytes[row.len++] = (uint8_t)value;
+        text += used;
+    }
+    return row;
+}
+
+/* One line of a table: | offset | `bytes` | field | value |. A value that is a number must be that of the bytes. */
+static void read_field(const field *due, byte_row *book)
+{
+    char name[LINE_BYTES], value[LINE_BYTES], bytes[LINE_BYTES];
+    byte_row row;
+    uint64_t number = 0;
+    size_t offset;
+    find_line("| ");
+    if (sscanf(line, "| %zu | `%[^`]` | %[^|]| %[^|]|", &offset, bytes, name, value) != 4)
+        fail("this line of the table is not understood: %s", line);
+    name[strlen(name) - 1] = '\0'; /* the space before the bar */
+    row = read_bytes(bytes);
+    if (offset != due->offset || row.len != due->len || strcmp(name, due->name) != 0)
+        fail("expected %zu bytes '%s' at offset %zu: %s", due->len, due->name, due->offset, line);
+    for (size_t i = 0; i < row.len; i++)
+        number = number << 8 | row.bytes[i];
+    if (value[0] >= '0' && value[0] <= '9' && strtoull(value, NULL, 10) != number)
+        fail("the value is not that of the bytes: %s", line);
+    memcpy(book->bytes + offset, row.bytes, row.len);
+    book->len += row.len;
+}
+
+static byte_row read_book(const field *record_fields, size_t fields)
+{
+    byte_row book = {0, {0}};
+    find_line("| offset |");
+    for (size_t i = 0; i < CONTENTS_FIELDS; i++)
+        read_field(&clear_fields[i], &book);
+    for (size_t i = 0; i < fields; i++)
+        read_field(&record_fields[i], &book);
+    if (book.len != BOOK_BYTES)
+        fail("the table has %zu bytes", book.len);
+    return book;
+}
+
+static byte_row read_key_file(const char *name)
+{
+    FILE *file = fopen(name, "r");
+    byte_row key;
+    if (file == NULL || fgets(line, sizeof line, file) == NULL)
+        fail("%s cannot be read", name);
+    fclose(file);
+    key = read_bytes(line);
+    return key;
+}
+
+static void expect_bytes(const char *what, const uint8_t *got, const uint8_t *due, size_t len)
+{
+    for (size_t i = 0; i < len; i++)
+        if (got[i] != due[i])
+            fail("%s: byte %zu is %02x on the page, expected %02x", what, i, got[i], due[i]);
+}
+
+/* The library's and the reference's result of one call, by each way. */
+static void expect_call(call_kind kind, const byte_row *key, const byte_row *from, const byte_row *to)
+{
+    call_input in = {kind, key->bytes, key->len, 1, from->bytes, BOOK_BYTES, BOOK_BYTES};
+    compare_ways(&in, 1, "worked book");
+    expect_bytes(call_name(kind), to->bytes, last_output(), BOOK_BYTES);
+}
+
+int main(int argc, char **argv)
+{
+    byte_row key, clear, block, sealed;
+    uint8_t chained[REFERENCE_BLOCK], encrypted[REFERENCE_BLOCK];
+    reference_key expanded;
+    start_test("format", 1, argv);
+    if (argc != 3 || (page = fopen(argv[1], "r")) == NULL)
+        fail("usage: format FORMAT.md KEY.hex");
+    find_line("## A worked book");
+    key = read_bytes(find_line("    key "));
+    clear = read_book(clear_fields + CONTENTS_FIELDS, CLEAR_FIELDS - CONTENTS_FIELDS);
+    block = read_bytes(find_line("    block "));
+    sealed = read_book(&sealed_record, SEALED_FIELDS - CONTENTS_FIELDS);
+    if (key.len != 16 || block.len != 16 || memcmp(key.bytes, read_key_file(argv[2]).bytes, 16) != 0)
+        fail("the key is not that of %s, or it or the block is not 16 bytes long", argv[2]);
+    expect_call(CALL_ENCRYPT_BOOK, &key, &clear, &sealed);
+    expect_call(CALL_DECRYPT_BOOK, &key, &sealed, &clear);
+    for (size_t i = 0; i < REFERENCE_BLOCK; i++)
+        chained[i] = clear.bytes[28 + i] ^ clear.bytes[12 + i];
+    expect_bytes("block", block.bytes, chained, REFERENCE_BLOCK);
+    reference_expand_key(&expanded, key.bytes, key.len);
+    reference_encrypt_block(&expanded, block.bytes, encrypted);
+    expect_bytes("sealed record", sealed.bytes + 28, encrypted, REFERENCE_BLOCK);
+    printf("format: passed: the worked book, %d fields and two times %d bytes\n", CLEAR_FIELDS + SEALED_FIELDS, BOOK_BYTES);
+    return 0;
+}

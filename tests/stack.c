@@ -1,0 +1,223 @@
+/*
+ * What a call leaves behind on the stack, and how much of it a call uses. Each call is made on a stack of its own, which is
+ * then searched for the words of the key, of the expanded key and of the clear block or record: after planbook_wipe_stack
+ * there must be none; without it there must be some, or this test could not fail.
+ *
+ *   stack [SEED]
+ */
+#define _XOPEN_SOURCE 600
+
+#include "compare.h"
+#include "library.h"
+#include "planbook.h"
+
+#include <inttypes.h>
+#include <stdio.h>
+#include <string.h>
+#include <ucontext.h>
+
+enum {
+    OWN_STACK_BYTES = 128 * 1024,
+    FILL = 0xa5,   /* what the stack holds before the call */
+    MARGIN = 4096, /* how much less than PLANBOOK_STACK_BYTES is used, the frames of this file included */
+    RECORDS = 5,
+    MAX_SECRETS = 8 + 56 + 3 * RECORDS
+};
+
+static uint8_t stack[OWN_STACK_BYTES];
+static ucontext_t outside, inside;
+
+/* One call, as the function on the other stack finds it: nothing secret goes through this file's own frames. */
+static call_input in;
+static uint8_t key[32], input[256], output[PLANBOOK_CONSTANTS256_BYTES];
+static uint64_t answer;
+static int wipe;
+
+static uint32_t secrets[MAX_SECRETS];
+static size_t secret_count;
+
+static void call_and_wipe(void)
+{
+    answer = library_call(&in, output);
+    if (wipe)
+        planbook_wipe_stack();
+}
+
+static void run_on_own_stack(void)
+{
+    memset(stack, FILL, sizeof stack);
+    if (getcontext(&inside) != 0)
+        fail("no context");
+    inside.uc_stack.ss_sp = stack;
+    inside.uc_stack.ss_size = sizeof stack;
+    inside.uc_link = &outside;
+    makecontext(&inside, call_and_wipe, 0);
+    if (swapcontext(&outside, &inside) != 0)
+        fail("no other stack");
+}
+
+/* The bytes from the stack's upper end down to the lowest one that was written. */
+static size_t depth(void)
+{
+    size_t untouched = 0;
+    while (untouched < sizeof stack && stack[untouched] == FILL)
+        untouched++;
+    return sizeof stack - untouched;
+}
+
+static uint32_t turned(uint32_t word)
+{
+    return word >> 24 | (word >> 8 & 0xff00) | (word << 8 & 0xff0000) | word << 24;
+}
+
+/* How many of the secret words stand somewhere on the stack, in either order of their bytes. */
+static size_t secrets_found(void)
+{
+    size_t found = 0, first = sizeof stack - depth();
+    for (size_t s = 0; s < secret_count; s++) {
+        uint32_t word = secrets[s], other = turned(word);
+        for (size_t i = first; i + 4 <= sizeof stack; i++) {
+            uint32_t there = reference_load_word(stack + i);
+            if (there == word || there == other) {
+                found++;
+                break;
+            }
+        }
+    }
+    return found;
+}
+
+static void add_secrets(const uint8_t *bytes, size_t len)
+{
+    for (size_t i = 0; i + 4 <= len; i += 4)
+        secrets[secret_count++] = reference_load_word(bytes + i);
+}
+
+static void add_expanded_key(void)
+{
+    reference_key expanded;
+    reference_expand_key(&expanded, key, in.key_len);
+    memcpy(secrets + secret_count, expanded.whitening, sizeof expanded.whitening);
+    secret_count += 4;
+    memcpy(secrets + secret_count, expanded.round_keys, 4 * 2 * expanded.rounds);
+    secret_count += 2 * expanded.rounds;
+}
+
+/* A book of two sheets. The first three words of each record are secrets; trials and entries are made high, since small
+ * numbers may stand on the stack for another reason. */
+static size_t make_book(uint8_t *book)
+{
+    static const book_shape shape = {2, {3, RECORDS - 3}};
+    uint8_t *entries = book + HEAD_LENGTH, *record = entries + 2 * ENTRY_LENGTH;
+    size_t len = make_clear_book(&random_source, &shape, book);
+    reference_store_word(entries, 0x5b3c9d01);
+    reference_store_word(entries + ENTRY_LENGTH, 0x6e1f8a27);
+    for (uint32_t i = 0; i < RECORDS; i++, record += RECORD_LENGTH) {
+        memcpy(record, entries + (i < 3 ? 0 : ENTRY_LENGTH), 4);
+        reference_store_word(record + 4, 0xc8e17f35 - 0x01030507 * i);
+        add_secrets(record, 12);
+    }
+    return len;
+}
+
+static void make_block_input(void)
+{
+    uint8_t clear[REFERENCE_BLOCK];
+    reference_key expanded;
+    random_fill(&random_source, clear, sizeof clear);
+    add_secrets(clear, sizeof clear);
+    memcpy(input, clear, sizeof clear);
+    reference_expand_key(&expanded, key, in.key_len);
+    if (in.kind == CALL_DECRYPT_BLOCK)
+        reference_encrypt_block(&expanded, clear, input);
+    in.input_len = sizeof clear;
+}
+
+static void make_book_input(void)
+{
+    uint8_t clear[sizeof input];
+    reference_key expanded;
+    in.input_len = make_book(clear);
+    memcpy(input, clear, in.input_len);
+    if (in.kind == CALL_ENCRYPT_BOOK)
+        return;
+    reference_expand_key(&expanded, key, in.key_len);
+    reference_encrypt_bodies(&expanded, clear, in.input_len, input);
+    input[0] = SEALED_BOOK;
+}
+
+static void make_call(call_kind kind, uint64_t way, uint64_t key_len)
+{
+    memset(&in, 0, sizeof in);
+    in.kind = kind;
+    in.way = way;
+    in.key = key;
+    in.key_len = key_len;
+    in.input = input;
+    secret_count = 0;
+    random_fill(&random_source, key, sizeof key);
+    if (call_is_block(kind))
+        make_block_input();
+    if (call_is_book(kind))
+        make_book_input();
+    in.out_len = reference_output_length(&in);
+    if (kind == CALL_CONSTANTS)
+        return;
+    add_secrets(key, key_len);
+    add_expanded_key();
+}
+
+/* Runs the call, which must be accepted or refused as stated; answers how many secret words it left. */
+static size_t words_left(int wiping, int accepted)
+{
+    wipe = wiping;
+    run_on_own_stack();
+    if ((answer >> 32 == 0) != accepted)
+        fail_call(&in, "stack", "check %" PRIu64, answer >> 32);
+    return secrets_found();
+}
+
+static size_t deepest;
+
+static void note_depth(void)
+{
+    size_t used = depth();
+    if (used > deepest)
+        deepest = used;
+    if (used > PLANBOOK_STACK_BYTES - MARGIN)
+        fail_call(&in, "stack", "%zu bytes of stack are used, above %d", used, PLANBOOK_STACK_BYTES - MARGIN);
+}
+
+static size_t least_left = MAX_SECRETS;
+
+/* Every call that takes a key must leave some of it, or the search is no test of the wipe. */
+static void try_call(int accepted)
+{
+    size_t left = words_left(0, accepted);
+    note_depth();
+    if (in.kind != CALL_CONSTANTS) {
+        if (left == 0)
+            fail_call(&in, "stack", "no secret is found without the wipe: this test cannot fail");
+        least_left = left < least_left ? left : least_left;
+    }
+    left = words_left(1, accepted);
+    if (left != 0)
+        fail_call(&in, "stack", "%zu secret words are found after the wipe", left);
+}
+
+int main(int argc, char **argv)
+{
+    start_test("stack", argc, argv);
+    for (int kind = 0; kind < CALLS; kind++)
+        for (uint64_t way = 1; way <= WAYS; way++)
+            for (uint64_t key_len = 16; key_len <= 32; key_len += 8) {
+                make_call((call_kind)kind, way, key_len);
+                try_call(1);
+                in.out_len--; /* check 4, which is made when the key is expanded already */
+                try_call(0);
+            }
+    printf("stack: at most %zu bytes used by a call; at least %zu secret words left where there is a key, none after the wipe\n",
+           deepest, least_left);
+    printf("stack: passed\n");
+    return 0;
+}
