@@ -42,8 +42,8 @@ returns-2 c =
 write-book-requires : tie.Need-write-book-requires
 write-book-requires c κs =
     let k : tie.After-known-told = c .before in
-    let s : tie.Start = start (sized k) in
-    (s .pre .0, (s .pre .1, book-given (s .args .decrypting) (s .args .w .now) _ (s .args .out .now) (sized k .if1 .left) (answered k), sized k .if1 .left))
+    let t : tie.Start = start (sized k) in
+    (t .pre .0, (t .pre .1, book-given (t .args .decrypting) (t .args .w .now) _ (t .args .out .now) (sized k .if1 .left) (answered k), sized k .if1 .left))
 
 same-length : tie.Need-same-length
 same-length c = search needs
