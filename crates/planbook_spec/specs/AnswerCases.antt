@@ -82,7 +82,8 @@ bookCases =
     ∷ (encrypting (set small 10 1) ∷ [] gives 9 * 2 ^ 32 ∷ [])
     ∷ (encrypting (set small 11 1) ∷ [] gives 9 * 2 ^ 32 ∷ [])
     ∷ (encrypting (set large 31 41) ∷ [] gives 9 * 2 ^ 32 ∷ [])
-    -- 10: 1024 records pass, and are not there; a byte too few; a byte too many
+    -- 10: the contents are there, to the byte, and the body is not; 1024 records pass, and are not there; a byte too few; a byte too many
+    ∷ (encrypting (take 28 small) ∷ [] gives 10 * 2 ^ 32 ∷ [])
     ∷ (encrypting (set (set small 8 4) 9 0) ∷ [] gives 10 * 2 ^ 32 ∷ [])
     ∷ (encrypting (take 43 small) ∷ [] gives 10 * 2 ^ 32 ∷ [])
     ∷ (encrypting (small ++ (0 ∷ [])) ∷ [] gives 10 * 2 ^ 32 ∷ [])
@@ -101,8 +102,9 @@ bookCases =
     ∷ (encrypting (set small 43 1) ∷ [] gives 11 * 2 ^ 32 ∷ [])
     ∷ (encrypting (set large 76 0) ∷ [] gives 11 * 2 ^ 32 ∷ [])
     ∷ (encrypting (set large 92 0) ∷ [] gives 11 * 2 ^ 32 ∷ [])
-    -- accepted: entry 1, and one that has its first byte alone; a trial that has its first byte alone; replicate 4; any row and column; the highest trial
+    -- accepted: trial 1; entry 1, and one that has its first byte alone; a trial that has its first byte alone; replicate 4; any row and column; the highest trial
     -- and entry
+    ∷ (encrypting (set (set small 7 1) 31 1) ∷ [] gives 1 ∷ [])
     ∷ (encrypting (set small 35 1) ∷ [] gives 1 ∷ [])
     ∷ (encrypting (sets small 32 (1 ∷ 0 ∷ 0 ∷ 0 ∷ [])) ∷ [] gives 1 ∷ [])
     ∷ (encrypting (sets (sets small 28 (1 ∷ 0 ∷ 0 ∷ 0 ∷ [])) 4 (1 ∷ 0 ∷ 0 ∷ 0 ∷ [])) ∷ [] gives 1 ∷ [])
@@ -122,7 +124,7 @@ pub bookCases-hold : AllHold bookCases
 unfolding bookCases rising allSame fromDigits xors answer after judged outputCheck number pieces entryHolds entriesHold recordHolds allRecordsHold recordCount formChecks eachBody sheetsHold recordsCheck cbcEncrypt cbcDecrypt encryptBody decryptBody recoded bookChecks encryptBookBy decryptBookBy
 bookCases-hold = computed bookCases refl
 
--- Checks 1 to 5, most with two or more that fail at once.
+-- Checks 1 to 5, most with two or more that fail at once, and the counts.
 pub callCases : List Case
 callCases =
     -- constants: 1, 4
@@ -148,6 +150,10 @@ callCases =
     ∷ (answer (encryptBlockCall (replicate 16 0) 3 (replicate 16 0) (replicate 17 0)) ∷ [] gives 4 * 2 ^ 32 ∷ [])
     ∷ (answer (decryptBlockCall (replicate 16 0) 3 (replicate 15 0) (replicate 15 0)) ∷ [] gives 3 * 2 ^ 32 ∷ [])
     ∷ (answer (decryptBlockCall (replicate 16 0) 3 (replicate 16 0) (replicate 17 0)) ∷ [] gives 4 * 2 ^ 32 ∷ [])
+    -- accepted, with the count: each key length and each way
+    ∷ (answer (constantsCall 16 (replicate 240 0)) ∷ answer (constantsCall 24 (replicate 336 0)) ∷ answer (constantsCall 32 (replicate 368 0)) ∷ [] gives 60 ∷ 84 ∷ 92 ∷ [])
+    ∷ (answer (expandKeyCall (replicate 16 0) 1 (replicate 160 0)) ∷ answer (expandKeyCall (replicate 24 0) 2 (replicate 192 0)) ∷ answer (expandKeyCall (replicate 32 0) 3 (replicate 224 0)) ∷ [] gives 40 ∷ 48 ∷ 56 ∷ [])
+    ∷ (answer (encryptBlockCall (replicate 16 0) 1 (replicate 16 0) (replicate 16 0)) ∷ answer (decryptBlockCall (replicate 16 0) 2 (replicate 16 0) (replicate 16 0)) ∷ [] gives 1 ∷ 1 ∷ [])
     -- books: 1, 2, 4, 5
     ∷ (answer (encryptBookCall (replicate 15 0) 4 [] (replicate 4 0)) ∷ [] gives 1 * 2 ^ 32 ∷ [])
     ∷ (answer (encryptBookCall (replicate 32 0) 4 [] (replicate 4 0)) ∷ [] gives 2 * 2 ^ 32 ∷ [])
