@@ -147,8 +147,8 @@ fn write_fours(
     Place { at, left, previous }
 }
 
-// What of a body is recoded before the rest goes record by record: in decrypting, all fours; in encrypting, where each record waits for the one
-// before it, nothing.
+// What of a body is recoded before the rest goes record by record: in decrypting by word tables, all fours; in encrypting, where each record waits
+// for the one before it, and by other tables, which leave nothing to wait for, nothing.
 pub fn begin(
     decrypting: bool,
     words: &[[u32; 256]],
@@ -164,7 +164,9 @@ pub fn begin(
     ensures { λ r. ⌜ Chained decrypting (now (w .entry)) (now (entry .entry)) (now (body .entry)) (now (out .exit)) (r .at) (r .left) (r .previous) ⌝ }
 {
     if decrypting {
-        return write_fours(words, bytes, w, entry, body, out);
+        if words.len() == 8 {
+            return write_fours(words, bytes, w, entry, body, out);
+        }
     }
     let left = entry::half(entry, 4);
     let chain = Chain::new(entry);

@@ -48,7 +48,7 @@ fn rest_holds(
     true
 }
 
-// Every record of an encrypted body, decrypted and dropped again, four at a time as long as there are four: nothing is written.
+// Every record of an encrypted body, decrypted and dropped again: nothing is written. By word tables they go four at a time as long as there are four.
 pub fn decrypted_sheet_holds(
     words: &[[u32; 256]],
     bytes: &[[u8; 256]],
@@ -66,6 +66,9 @@ pub fn decrypted_sheet_holds(
     let mut previous = chain.previous;
     let mut left = sheet.count;
     let mut at = 0;
+    if words.len() != 8 {
+        return rest_holds(words, bytes, w, entry, body, at, left, previous);
+    }
     while 4 <= left {
         if !four::four_hold(words, bytes, w, sheet, body, at, previous) {
             return false;

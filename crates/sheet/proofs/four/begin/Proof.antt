@@ -13,7 +13,7 @@ same-length : tie.Need-same-length
 same-length c = search needs
 
 returns : tie.Need-returns
-returns c = rw (c .before .before .before .before .if1 .taken) (c .before .before .write-fours .ensures)
+returns c = rw (c .before .before .before .before .before .if1 .taken) (c .before .before .write-fours .ensures)
 
 half-requires : tie.Need-half-requires
 half-requires c κs = search needs
