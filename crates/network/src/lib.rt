@@ -8,13 +8,13 @@ ghost use Rattle.clefia_spec.specs.FFunction.{f0, f1};
 ghost use Rattle.clefia_spec.specs.Network.{feistel, rotateLeft, rotateRight, network4, inverseNetwork4};
 ghost use Rattle.ffunction.specs.Tables.{Lent};
 
-fn rotate_left4(s: [u32; 4]) -> [u32; 4]
+pub fn rotate_left4(s: [u32; 4]) -> [u32; 4]
     ensures { λ r. ⌜ r ≡ rotateLeft s ⌝ }
 {
     [s[1], s[2], s[3], s[0]]
 }
 
-fn rotate_right4(s: [u32; 4]) -> [u32; 4]
+pub fn rotate_right4(s: [u32; 4]) -> [u32; 4]
     ensures { λ r. ⌜ r ≡ rotateRight s ⌝ }
 {
     [s[3], s[0], s[1], s[2]]

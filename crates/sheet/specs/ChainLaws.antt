@@ -1,6 +1,6 @@
 -- Laws of chains: what a step on words is on bytes, and stretches of an output that are filled one after the other.
 use Prim.Native.Nat.{ℕ, zero, suc, _+_, _-_, _*_, _^_, _≤_, _<_}
-use mathlib.Core.Path.{_≡_, sym, ap, ap₂, _∙_}
+use mathlib.Core.Path.{_≡_, refl, sym, ap, ap₂, _∙_}
 use mathlib.Core.Bool.{Bool, true, false, _&&_}
 use mathlib.Core.List.{List, _∷_, _++_, append-assoc}
 use native.Mathlib.Omega.{arith}
@@ -152,10 +152,19 @@ ahead-fits (suc n) {end} {size} {from} e h f g = let z : from ≡ end = f (omega
 
 -- ---- a rule of the records, looked at as the chain is undone
 
-pub record Decrypted (w entry body : List ℕ) (at left : ℕ) (p : List ℕ) : Type 0 where
+and-assoc : (x y z : Bool) → ((x && y) && z) ≡ (x && (y && z))
+and-assoc true y z = refl
+and-assoc false y z = refl
+
+and-true : (x : Bool) → (x && true) ≡ x
+and-true true = refl
+and-true false = refl
+
+-- So far all records have held, or not (b); `left` are to come.
+pub record Decrypted (b : Bool) (w entry body : List ℕ) (at left : ℕ) (p : List ℕ) : Type 0 where
   pub place : at + 16 * left ≡ 16 * count entry
   pub row : Row 4 p
-  pub rest : allRecordsHold entry (pieces 16 left (cbcDecrypt (decryptUnder w) left (bytesOf p) (drop at body)))
+  pub rest : (b && allRecordsHold entry (pieces 16 left (cbcDecrypt (decryptUnder w) left (bytesOf p) (drop at body))))
       ≡ sheetHolds entry (decryptBody (decryptUnder w) entry body)
 
 pieces-first : (n : ℕ) (b rest : List ℕ) → 0 < n → length b ≡ 16 → pieces 16 n (b ++ rest) ≡ b ∷ pieces 16 (n - 1) rest
@@ -165,7 +174,7 @@ pieces-first (suc n) b rest h l =
     let e : suc n - 1 ≡ n = omega arith in
     rw (take-at b rest 16 l, drop-at b rest 16 l, e)
 
-pub decrypted-start : (w entry body : List ℕ) → Below 256 entry → length entry ≡ 24 → Decrypted w entry body 0 (count entry) (wordsOf 4 (drop 8 entry))
+pub decrypted-start : (w entry body : List ℕ) → Below 256 entry → length entry ≡ 24 → Decrypted true w entry body 0 (count entry) (wordsOf 4 (drop 8 entry))
 unfolding decryptBody
 decrypted-start w entry body b l =
     let k : 16 ≤ length (drop 8 entry) = rw length-drop (omega arith) in
@@ -175,7 +184,7 @@ decrypted-start w entry body b l =
       rest = ap (λ (x : List ℕ). allRecordsHold entry (pieces 16 (count entry) (cbcDecrypt (decryptUnder w) (count entry) x body))) (block-at (drop 8 entry) (below-drop 8 b) k);
     }
 
-module _ {w entry body p : List ℕ} {at left : ℕ} (o : Decrypted w entry body at left p) where
+module _ {b : Bool} {w entry body p : List ℕ} {at left : ℕ} (o : Decrypted b w entry body at left p) where
   module _ (words : Below (2 ^ 32) w) (bytes : Below 256 body) (size : length body ≡ 16 * count entry) (h : 0 < left) where
     abbrev clear : List ℕ
     clear = xors p (decryptWords w (wordsOf 4 (drop at body)))
@@ -189,19 +198,23 @@ module _ {w entry body p : List ℕ} {at left : ℕ} (o : Decrypted w entry body
     row-clear : Row 4 clear
     row-clear = row-decrypted words (o .row) (below-drop at bytes) enough
 
-    peeled : (recordHolds entry (bytesOf clear) && allRecordsHold entry (pieces 16 (left - 1) (cbcDecrypt (decryptUnder w) (left - 1) (bytesOf (wordsOf 4 (drop at body))) (drop (at + 16) body))))
-        ≡ sheetHolds entry (decryptBody (decryptUnder w) entry body)
+    -- One record more.
+    pub decrypted-step : {r : Bool} → r ≡ recordHolds entry (bytesOf clear) → Decrypted (b && r) w entry body (at + 16) (left - 1) (wordsOf 4 (drop at body))
     unfolding allRecordsHold
-    peeled =
-        rw (decrypt-turn at words (o .row) bytes fits h, pieces-first left (bytesOf clear) (cbcDecrypt (decryptUnder w) (left - 1) (bytesOf (wordsOf 4 (drop at body))) (drop (at + 16) body)) h (length-bytes row-clear)) at (o .rest)
-
-    pub decrypted-broken : recordHolds entry (bytesOf clear) ≡ false → false ≡ sheetHolds entry (decryptBody (decryptUnder w) entry body)
-    decrypted-broken e = rw e at peeled
-
-    pub decrypted-step : recordHolds entry (bytesOf clear) ≡ true → Decrypted w entry body (at + 16) (left - 1) (wordsOf 4 (drop at body))
     decrypted-step e =
-        record { place = omega (arith, o .place); row = row-block (below-drop at bytes); rest = rw e at peeled }
+        record {
+          place = omega (arith, o .place);
+          row = row-block (below-drop at bytes);
+          rest =
+              rw e
+              (and-assoc b _ _
+              ∙ rw (decrypt-turn at words (o .row) bytes fits h, pieces-first left (bytesOf clear) (cbcDecrypt (decryptUnder w) (left - 1) (bytesOf (wordsOf 4 (drop at body))) (drop (at + 16) body)) h (length-bytes row-clear)) at (o .rest));
+        }
 
-  pub decrypted-end : left ≡ 0 → true ≡ sheetHolds entry (decryptBody (decryptUnder w) entry body)
+  -- One did not hold, or none is left.
+  pub decrypted-broken : b ≡ false → b ≡ sheetHolds entry (decryptBody (decryptUnder w) entry body)
+  decrypted-broken e = rw e (rw e at (o .rest))
+
+  pub decrypted-end : left ≡ 0 → b ≡ sheetHolds entry (decryptBody (decryptUnder w) entry body)
   unfolding allRecordsHold pieces
-  decrypted-end z = rw z at (o .rest)
+  decrypted-end z = sym (and-true b) ∙ rw z at (o .rest)

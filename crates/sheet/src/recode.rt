@@ -1,4 +1,4 @@
-// The body of one sheet, encrypted or decrypted block by block. `entry` is the sheet's entry.
+// The body of one sheet, encrypted or decrypted: in decrypting four records at a time, the rest and all encrypting block by block. `entry` is the sheet's entry.
 ghost use mathlib.Core.Path.{_≡_};
 ghost use Prim.Native.Nat.{_*_, _≤_};
 ghost use lib.ListN.{length};
@@ -7,7 +7,7 @@ ghost use Rattle.ffunction.specs.Tables.{Lent};
 ghost use Rattle.sheet.specs.Recode.{recodedBody};
 use super::blocks;
 use super::chain::Chain;
-use form::entry;
+use super::four;
 
 pub fn recode_sheet(
     decrypting: bool,
@@ -23,13 +23,15 @@ pub fn recode_sheet(
     requires { ⌜ (length (now body) ≡ 16 * count (now entry)) × (length (now out) ≡ 16 * count (now entry)) ⌝ }
     ensures { λ r. ⌜ now (out .exit) ≡ recodedBody decrypting (now (w .entry)) (now (entry .entry)) (now (body .entry)) ⌝ }
 {
-    let mut left = entry::half(entry, 4);
+    let start = four::begin(decrypting, words, bytes, w, entry, body, out);
+    let mut left = start.left;
     if left == 0 {
         return;
     }
-    let mut chain = Chain::new(entry);
-    let mut block = rows::load(body, 0);
-    let mut at = 0;
+    let mut at = start.at;
+    let previous = start.previous;
+    let mut chain = Chain { previous };
+    let mut block = rows::load(body, at);
     while 0 < left {
         let end = at + 16;
         let step = chain.recode(decrypting, words, bytes, w, block);

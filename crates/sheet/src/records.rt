@@ -1,31 +1,38 @@
 // Check 11 of one encrypted sheet. `entry` is the sheet's entry.
 ghost use mathlib.Core.Path.{_≡_};
 ghost use Prim.Native.Nat.{_*_, _≤_};
+ghost use mathlib.Core.Bool.{true};
 ghost use lib.ListN.{length};
 ghost use Rattle.clefia_spec.specs.Block.{decryptUnder};
 ghost use Rattle.planbook_spec.specs.Book.{count, sheetHolds, decryptBody};
 ghost use Rattle.ffunction.specs.Tables.{Lent};
+ghost use Rattle.sheet.specs.ChainLaws.{Decrypted};
 use super::chain::Chain;
+use super::four;
 use form::entry;
 use form::record;
 
-// Every record of an encrypted body, decrypted and dropped again: nothing is written.
-pub fn decrypted_sheet_holds(
+// The last `n` records, which stand from `from` on, one by one; `before` went before them.
+fn rest_holds(
     words: &[[u32; 256]],
     bytes: &[[u8; 256]],
     w: &[u32],
     entry: &[u8],
     body: &[u8],
+    from: usize,
+    n: usize,
+    before: [u32; 4],
 ) -> bool
     requires { ⌜ Lent (now words) (now bytes) ⌝ }
     requires { ⌜ (4 ≤ length (now w)) × (length (now entry) ≡ 24) ⌝ }
     requires { ⌜ length (now body) ≡ 16 * count (now entry) ⌝ }
+    requires { ⌜ Decrypted true (now w) (now entry) (now body) from n before ⌝ }
     ensures { λ r. ⌜ r ≡ sheetHolds (now (entry .entry)) (decryptBody (decryptUnder (now (w .entry))) (now (entry .entry)) (now (body .entry))) ⌝ }
 {
     let sheet = entry::read_sheet(entry);
-    let mut chain = Chain::new(entry);
-    let mut left = sheet.count;
-    let mut at = 0;
+    let mut chain = Chain { previous: before };
+    let mut left = n;
+    let mut at = from;
     while 0 < left {
         let end = at + 16;
         let step = chain.decrypt(words, bytes, w, rows::load(body, at));
@@ -39,4 +46,37 @@ pub fn decrypted_sheet_holds(
         at = end;
     }
     true
+}
+
+// Every record of an encrypted body, decrypted and dropped again: nothing is written. By word tables they go four at a time as long as there are four.
+pub fn decrypted_sheet_holds(
+    words: &[[u32; 256]],
+    bytes: &[[u8; 256]],
+    w: &[u32],
+    entry: &[u8],
+    body: &[u8],
+) -> bool
+    requires { ⌜ Lent (now words) (now bytes) ⌝ }
+    requires { ⌜ (4 ≤ length (now w)) × (length (now entry) ≡ 24) ⌝ }
+    requires { ⌜ length (now body) ≡ 16 * count (now entry) ⌝ }
+    ensures { λ r. ⌜ r ≡ sheetHolds (now (entry .entry)) (decryptBody (decryptUnder (now (w .entry))) (now (entry .entry)) (now (body .entry))) ⌝ }
+{
+    let sheet = entry::read_sheet(entry);
+    let chain = Chain::new(entry);
+    let mut previous = chain.previous;
+    let mut left = sheet.count;
+    let mut at = 0;
+    if words.len() != 8 {
+        return rest_holds(words, bytes, w, entry, body, at, left, previous);
+    }
+    while 4 <= left {
+        if !four::four_hold(words, bytes, w, sheet, body, at, previous) {
+            return false;
+        }
+        let next = rows::load(body, at + 48);
+        previous = next;
+        left -= 4;
+        at += 64;
+    }
+    rest_holds(words, bytes, w, entry, body, at, left, previous)
 }

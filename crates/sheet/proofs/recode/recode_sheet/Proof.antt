@@ -8,40 +8,30 @@ use Rattle.clefia_spec.specs.Words.{wordsOf, Below}
 use Rattle.clefia_spec.specs.DigitLaws.{below-all}
 use Rattle.planbook_spec.specs.Book.{count}
 use Rattle.form.specs.Walks.{part-length}
-use Rattle.sheet.specs.ChainLaws.{Chained, chain-start, chain-turn, chain-end, ahead-fits}
+use Rattle.sheet.specs.ChainLaws.{Chained, chain-turn, chain-end, ahead-fits}
 use Rattle.sheet.proofs.recode.recode_sheet.Statement.{statement}
 use Rattle.sheet.proofs.recode.recode_sheet.Tie as tie
 
 abbrev Inv-loop : tie.InvT-loop
-Inv-loop decrypting words bytes w entry body out₀ left₀ chain₀ block₀ at₀ out left chain block at = Chained decrypting w entry body out at left (chain .previous) × (0 < left → block ≡ wordsOf 4 (drop at body))
+Inv-loop decrypting words bytes w entry body out₀ left₀ at₀ chain₀ block₀ out left at chain block = Chained decrypting w entry body out at left (chain .previous) × (0 < left → block ≡ wordsOf 4 (drop at body))
 
 abbrev μ-loop : tie.MeasureT-loop
-μ-loop decrypting words bytes w entry body out₀ left₀ chain₀ block₀ at₀ out left chain block at = left
+μ-loop decrypting words bytes w entry body out₀ left₀ at₀ chain₀ block₀ out left at chain block = left
 
--- before the first block
-begun : (h : tie.After-half Inv-loop μ-loop) →
-    let s : tie.Start Inv-loop μ-loop = h .before .before .before .before .before in
-    Chained (s .args .decrypting) (s .args .w .now) (s .args .entry .now) (s .args .body .now) (s .args .out .now) 0 (count (s .args .entry .now)) (wordsOf 4 (drop 8 (s .args .entry .now)))
-begun h =
-    let s : tie.Start Inv-loop μ-loop = h .before .before .before .before .before in
-    chain-start _ _ _ (below-all (s .args .entry .now) (λ j k. h .before .before .before .shared-slice-known2 .given j .fits)) (s .pre .1 .0 .1) (s .pre .1 .1 .1)
+begin-requires : tie.Need-begin-requires Inv-loop μ-loop
+begin-requires c κs = search needs
 
-half-requires : tie.Need-half-requires Inv-loop μ-loop
-half-requires c κs = search needs
+same-length : tie.Need-same-length Inv-loop μ-loop
+same-length c = search needs
 
 returns : tie.Need-returns Inv-loop μ-loop
-returns c = chain-end _ (begun (c .before)) (sym (c .before .half .ensures) ∙ c .if1 .taken)
-
-new-requires : tie.Need-new-requires Inv-loop μ-loop
-new-requires c κs = search needs
+returns c = chain-end _ (c .before .before .before .begin .ensures) (c .if1 .taken)
 
 load-requires : tie.Need-load-requires Inv-loop μ-loop
 load-requires c κs = search needs
 
 loop-holds : tie.Need-loop-holds Inv-loop μ-loop
-loop-holds c =
-    let h : tie.After-half Inv-loop μ-loop = c .before .before .before in
-    (rw (h .half .ensures, c .before .new .ensures) (begun h), λ k. c .load .ensures)
+loop-holds c = (c .before .before .before .before .before .begin .ensures, λ k. c .load .ensures)
 
 add-end : tie.Need-add-end Inv-loop μ-loop
 add-end c = search needs
@@ -64,7 +54,7 @@ part-exchange-end c = search needs
 exchange-requires : tie.Need-exchange-requires Inv-loop μ-loop
 exchange-requires c κs =
     let a : tie.At-loop Inv-loop μ-loop = c .before .before .before .before .before in
-    let s : tie.Start Inv-loop μ-loop = a .before .before .before .before .before .before .before .before .before in
+    let s : tie.Start Inv-loop μ-loop = a .before .before .before .before .before .before .before .before .before .before .before .before in
     let size : length (s .args .body .now) ≡ 16 * count (s .args .entry .now) = s .pre .1 .1 .0 in
     let h : 0 < a .loop .left = c .before .before .before .before .loop-test .taken in
     let place : a .loop .at + 16 * a .loop .left ≡ 16 * count (s .args .entry .now) = a .loop .inv .0 .place in (
@@ -84,7 +74,7 @@ loop-again c =
     let f : tie.After-following Inv-loop μ-loop = x .before .before in
     let e : tie.After-recode Inv-loop μ-loop = f .before .before in
     let a : tie.At-loop Inv-loop μ-loop = e .before .before in
-    let k : tie.After-shared-slice-known3 Inv-loop μ-loop = a .before .before .before .before .before .before in
+    let k : tie.After-shared-slice-known3 Inv-loop μ-loop = a .before .before .before .before .before .before .before .before .before in
     let s : tie.Start Inv-loop μ-loop = k .before .before .before in
     let words : Below (2 ^ 32) (s .args .w .now) = below-all (s .args .w .now) (λ j h. k .before .before .shared-slice-known .given j .fits) in
     let bytes : Below 256 (s .args .body .now) = below-all (s .args .body .now) (λ j h. k .shared-slice-known3 .given j .fits) in
@@ -94,8 +84,8 @@ loop-again c =
       λ m. x .exchange .ensures .read ∙ ap (λ (n : ℕ). wordsOf 4 (drop n (s .args .body .now))) (f .following .ensures .0 (omega (arith, a .loop .inv .0 .place))),
     )
 
-same-length : tie.Need-same-length Inv-loop μ-loop
-same-length c = c .before .loop .inv .0 .size ∙ sym (c .before .before .before .before .before .before .before .before .before .before .pre .1 .1 .1)
+same-length-2 : tie.Need-same-length-2 Inv-loop μ-loop
+same-length-2 c = c .before .loop .inv .0 .size ∙ sym (c .before .before .before .before .before .before .before .before .before .before .before .before .before .pre .1 .1 .1)
 
 returns-2 : tie.Need-returns-2 Inv-loop μ-loop
 returns-2 c = chain-end _ (c .before .loop .inv .0) (search needs)
@@ -106,9 +96,9 @@ recode-sheet-spec =
     (tie.spec
     Inv-loop
     μ-loop
-    half-requires
+    begin-requires
+    same-length
     returns
-    new-requires
     load-requires
     loop-holds
     add-end
@@ -121,5 +111,5 @@ recode-sheet-spec =
     sub-left
     loop-less
     loop-again
-    same-length
+    same-length-2
     returns-2)

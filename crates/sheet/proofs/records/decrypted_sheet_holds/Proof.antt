@@ -1,47 +1,20 @@
--- `sheet::records::decrypted_sheet_holds` meets its contract: `left` blocks are to come, the first of them at `at`.
-use Prim.Native.Nat.{ℕ, _^_}
-use mathlib.Core.Path.{_≡_, sym, ap, _∙_}
-use mathlib.Core.List.{List}
+-- `sheet::records::decrypted_sheet_holds` meets its contract: `left` records are to come, the first of them at `at`.
+use mathlib.Core.Path.{_≡_, sym, _∙_}
+use mathlib.Core.Bool.{true}
 use borrow.Author.Needs.{needs}
 use borrow.Author.Tests.{not-true, not-false}
-use lib.ListN.{drop}
-use Rattle.clefia_spec.specs.Words.{bytesOf, wordsOf, xors, Below}
+use Rattle.clefia_spec.specs.Words.{wordsOf}
 use Rattle.clefia_spec.specs.DigitLaws.{below-all}
-use Rattle.clefia_spec.specs.Block.{decryptWords}
-use Rattle.planbook_spec.specs.Book.{recordHolds}
 use Rattle.form.specs.Entry.{sheetOf}
-use Rattle.sheet.specs.declared.chain.Step.{Step}
-use Rattle.sheet.specs.ChainLaws.{Decrypted, decrypted-start, decrypted-broken, decrypted-step, decrypted-end}
+use Rattle.sheet.specs.ChainLaws.{Decrypted, decrypted-start, decrypted-broken}
 use Rattle.sheet.proofs.records.decrypted_sheet_holds.Statement.{statement}
 use Rattle.sheet.proofs.records.decrypted_sheet_holds.Tie as tie
 
 abbrev Inv-loop : tie.InvT-loop
-Inv-loop words bytes w entry body sheet chain₀ left₀ at₀ chain left at = (sheet ≡ sheetOf entry) × Decrypted w entry body at left (chain .previous)
+Inv-loop words bytes w entry body sheet previous₀ left₀ at₀ previous left at = (sheet ≡ sheetOf entry) × Decrypted true w entry body at left previous
 
 abbrev μ-loop : tie.MeasureT-loop
-μ-loop words bytes w entry body sheet chain₀ left₀ at₀ chain left at = left
-
-abbrev start : tie.At-loop Inv-loop μ-loop → tie.Start Inv-loop μ-loop
-start a = a .before .before .before .before .before .before
-
-keys : (a : tie.At-loop Inv-loop μ-loop) → Below (2 ^ 32) (start a .args .w .now)
-keys a = below-all (start a .args .w .now) (λ j h. a .before .before .before .before .before .shared-slice-known .given j .fits)
-
-bytes : (a : tie.At-loop Inv-loop μ-loop) → Below 256 (start a .args .body .now)
-bytes a = below-all (start a .args .body .now) (λ j h. a .before .before .before .shared-slice-known3 .given j .fits)
-
--- what is known of the record that was decrypted at `at`
-tested : (c : tie.After-record-holds Inv-loop μ-loop) →
-    let a : tie.At-loop Inv-loop μ-loop = c .before .before .before .before .before in
-    let s : tie.Start Inv-loop μ-loop = start a in
-    c .record-holds .result ≡ recordHolds (s .args .entry .now) (bytesOf (xors (a .loop .chain .previous) (decryptWords (s .args .w .now) (wordsOf 4 (drop (a .loop .at) (s .args .body .now))))))
-tested c =
-    let d : tie.After-decrypt Inv-loop μ-loop = c .before .before in
-    let a : tie.At-loop Inv-loop μ-loop = d .before .before .before in
-    let s : tie.Start Inv-loop μ-loop = start a in
-    c .record-holds .ensures (s .args .entry .now) (a .loop .inv .0)
-    ∙ ap (λ (x : Step). recordHolds (s .args .entry .now) (bytesOf (x .block))) (d .decrypt .ensures)
-    ∙ ap (λ (b : List ℕ). recordHolds (s .args .entry .now) (bytesOf (xors (a .loop .chain .previous) (decryptWords (s .args .w .now) b)))) (d .before .load .ensures)
+μ-loop words bytes w entry body sheet previous₀ left₀ at₀ previous left at = left
 
 read-sheet-requires : tie.Need-read-sheet-requires Inv-loop μ-loop
 read-sheet-requires c κs = search needs
@@ -49,50 +22,58 @@ read-sheet-requires c κs = search needs
 new-requires : tie.Need-new-requires Inv-loop μ-loop
 new-requires c κs = search needs
 
-loop-holds : tie.Need-loop-holds Inv-loop μ-loop
-loop-holds c =
-    let k : tie.After-shared-slice-known2 Inv-loop μ-loop = c .before .before .before in
-    let s : tie.Start Inv-loop μ-loop = k .before .before in
-    let r : c .before .read-sheet .result ≡ _ = c .before .read-sheet .ensures in (
-      r,
-      rw (r, c .new .ensures) (decrypted-start (s .args .w .now) (s .args .entry .now) (s .args .body .now) (below-all (s .args .entry .now) (λ j h. k .shared-slice-known2 .given j .fits)) (search needs)),
-    )
+-- before the first record
+begun : (c : tie.After-previous Inv-loop μ-loop) →
+    let s : tie.Start Inv-loop μ-loop = c .before .before .before .before .before .before in
+    Decrypted true (s .args .w .now) (s .args .entry .now) (s .args .body .now) 0 (c .before .before .read-sheet .result .count) (c .before .new .result .previous)
+begun c =
+    let s : tie.Start Inv-loop μ-loop = c .before .before .before .before .before .before in
+    let r : c .before .before .read-sheet .result ≡ _ = c .before .before .read-sheet .ensures in
+    rw (r, c .before .new .ensures) (decrypted-start (s .args .w .now) (s .args .entry .now) (s .args .body .now) (below-all (s .args .entry .now) (λ j h. c .before .before .before .before .shared-slice-known2 .given j .fits)) (s .pre .1 .0 .1))
 
-add-end : tie.Need-add-end Inv-loop μ-loop
-add-end c = search needs
+rest-holds-requires : tie.Need-rest-holds-requires Inv-loop μ-loop
+rest-holds-requires c κs = (search needs, (search needs, (search needs, begun (c .before))))
+
+returns : tie.Need-returns Inv-loop μ-loop
+returns c = c .rest-holds .ensures
+
+loop-holds : tie.Need-loop-holds Inv-loop μ-loop
+loop-holds c = (c .before .before .before .read-sheet .ensures, begun (c .before))
+
+four-hold-requires : tie.Need-four-hold-requires Inv-loop μ-loop
+four-hold-requires c κs = search needs
+
+returns-2 : tie.Need-returns-2 Inv-loop μ-loop
+returns-2 c =
+    let a : tie.At-loop Inv-loop μ-loop = c .before .before .before in
+    let s : tie.Start Inv-loop μ-loop = a .before .before .before .before .before .before .before .before in
+    let b : c .before .four-hold .result ≡ _ = not-true _ (c .if2 .taken) in
+    sym b ∙ decrypted-broken (c .before .four-hold .ensures (s .args .entry .now) (a .loop .left) (a .loop .inv .0) (s .pre .1 .1) (a .loop .inv .1) (c .before .before .loop-test .taken)) b
+
+add-load : tie.Need-add-load Inv-loop μ-loop
+add-load c = search needs
 
 load-requires : tie.Need-load-requires Inv-loop μ-loop
 load-requires c κs = search needs
 
-decrypt-requires : tie.Need-decrypt-requires Inv-loop μ-loop
-decrypt-requires c κs = search needs
-
-record-holds-requires : tie.Need-record-holds-requires Inv-loop μ-loop
-record-holds-requires c κs = search needs
-
-returns : tie.Need-returns Inv-loop μ-loop
-returns c =
-    let a : tie.At-loop Inv-loop μ-loop = c .before .before .before .before .before .before in
-    decrypted-broken (a .loop .inv .1) (keys a) (bytes a) (start a .pre .1 .1) (search needs) (sym (tested (c .before)) ∙ not-true _ (c .if1 .taken))
-
-sub-left : tie.Need-sub-left Inv-loop μ-loop
-sub-left c = search needs
+add-at : tie.Need-add-at Inv-loop μ-loop
+add-at c = search needs
 
 loop-less : tie.Need-loop-less Inv-loop μ-loop
 loop-less c = search needs
 
 loop-again : tie.Need-loop-again Inv-loop μ-loop
 loop-again c =
-    let r : tie.After-record-holds Inv-loop μ-loop = c .before .before in
-    let d : tie.After-decrypt Inv-loop μ-loop = r .before .before in
-    let a : tie.At-loop Inv-loop μ-loop = d .before .before .before in (
-      a .loop .inv .0,
-      rw (d .decrypt .ensures, d .before .load .ensures)
-          (decrypted-step (a .loop .inv .1) (keys a) (bytes a) (start a .pre .1 .1) (d .before .before .loop-test .taken) (sym (tested r) ∙ not-false _ (c .before .if1 .left))),
-    )
+    let a : tie.At-loop Inv-loop μ-loop = c .before .before .before .before in
+    let s : tie.Start Inv-loop μ-loop = a .before .before .before .before .before .before .before .before in
+    let b : c .before .before .four-hold .result ≡ true = not-false _ (c .before .if2 .left) in
+    (a .loop .inv .0, rw (c .load .ensures) (rw b at (c .before .before .four-hold .ensures (s .args .entry .now) (a .loop .left) (a .loop .inv .0) (s .pre .1 .1) (a .loop .inv .1) (c .before .before .before .loop-test .taken))))
 
-returns-2 : tie.Need-returns-2 Inv-loop μ-loop
-returns-2 c = decrypted-end (c .before .loop .inv .1) (search needs)
+rest-holds-requires-2 : tie.Need-rest-holds-requires-2 Inv-loop μ-loop
+rest-holds-requires-2 c κs = (search needs, (search needs, (search needs, c .before .loop .inv .1)))
+
+returns-3 : tie.Need-returns-3 Inv-loop μ-loop
+returns-3 c = c .rest-holds2 .ensures
 
 pub decrypted-sheet-holds-spec : {M : Type 1} → statement M
 decrypted-sheet-holds-spec =
@@ -102,13 +83,15 @@ decrypted-sheet-holds-spec =
     μ-loop
     read-sheet-requires
     new-requires
-    loop-holds
-    add-end
-    load-requires
-    decrypt-requires
-    record-holds-requires
+    rest-holds-requires
     returns
-    sub-left
+    loop-holds
+    four-hold-requires
+    returns-2
+    add-load
+    load-requires
+    add-at
     loop-less
     loop-again
-    returns-2)
+    rest-holds-requires-2
+    returns-3)

@@ -1,0 +1,48 @@
+-- `network_rows::network4_each` meets its contract.
+use Prim.Native.Nat.{_*_, _/_}
+use mathlib.Core.Path.{_≡_}
+use Rattle.clefia_spec.specs.Network.{network}
+use borrow.Author.Needs.{needs}
+use Rattle.network_rows.proofs.network4_each.Statement.{statement}
+use Rattle.network_rows.proofs.network4_each.Tie as tie
+
+rounds-by-two-requires : tie.Need-rounds-by-two-requires
+rounds-by-two-requires c κs = search needs
+
+rotate-right-each-requires : tie.Need-rotate-right-each-requires
+rotate-right-each-requires c κs = search needs
+
+returns : tie.Need-returns
+unfolding network
+returns c =
+    let n = c .before .before .before .before .before .args .n in
+    let e : 2 * (n / 2) ≡ n = search needs in
+    rw (c .rotate-right-each .ensures, c .before .rounds-by-two .ensures, e)
+
+network4-requires : tie.Need-network4-requires
+network4-requires c κs = search needs
+
+network4-requires-2 : tie.Need-network4-requires-2
+network4-requires-2 c κs = search needs
+
+network4-requires-3 : tie.Need-network4-requires-3
+network4-requires-3 c κs = search needs
+
+network4-requires-4 : tie.Need-network4-requires-4
+network4-requires-4 c κs = search needs
+
+returns-2 : tie.Need-returns-2
+returns-2 c = rw (c .before .before .before .network4 .ensures, c .before .before .network42 .ensures, c .before .network43 .ensures, c .network44 .ensures)
+
+pub network4-each-spec : {M : Type 1} → statement M
+network4-each-spec =
+    tie.close
+    (tie.spec
+    rounds-by-two-requires
+    rotate-right-each-requires
+    returns
+    network4-requires
+    network4-requires-2
+    network4-requires-3
+    network4-requires-4
+    returns-2)

@@ -1,0 +1,106 @@
+-- `network_rows::rounds_by_two` meets its contract.
+use Prim.Native.Nat.{ℕ, _+_, _-_, _*_, _≤_, _<_}
+use mathlib.Core.Path.{_≡_, refl, sym, _∙_}
+use lib.ListN.{length}
+use borrow.Author.Needs.{needs}
+use Rattle.clefia_spec.specs.FFunction.{f0, f1}
+use Rattle.clefia_spec.specs.Network.{rounds}
+use Rattle.network_rows.specs.Four.{each, each-same, two-more}
+use Rattle.network_rows.proofs.rounds_by_two.Statement.{statement}
+use Rattle.network_rows.proofs.rounds_by_two.Tie as tie
+
+abbrev Inv-loop : tie.InvT-loop
+Inv-loop words bytes w n at t₀ left₀ i₀ t left i = (i + 4 * left ≤ length w) × (each (rounds 2 f0 f1 (2 * left) w i) t ≡ each (rounds 2 f0 f1 (2 * n) w at) t₀)
+
+abbrev μ-loop : tie.MeasureT-loop
+μ-loop words bytes w n at t₀ left₀ i₀ t left i = left
+
+loop-holds : tie.Need-loop-holds Inv-loop μ-loop
+loop-holds c = search needs
+
+mul-two-rounds : tie.Need-mul-two-rounds Inv-loop μ-loop
+mul-two-rounds c = search needs
+
+shared-slice-read-two-rounds : tie.Need-shared-slice-read-two-rounds Inv-loop μ-loop
+shared-slice-read-two-rounds c = search needs
+
+add-two-rounds : tie.Need-add-two-rounds Inv-loop μ-loop
+add-two-rounds c = search needs
+
+mul-two-rounds-2 : tie.Need-mul-two-rounds-2 Inv-loop μ-loop
+mul-two-rounds-2 c = search needs
+
+shared-slice-read-two-rounds-2 : tie.Need-shared-slice-read-two-rounds-2 Inv-loop μ-loop
+shared-slice-read-two-rounds-2 c = search needs
+
+add-two-rounds-2 : tie.Need-add-two-rounds-2 Inv-loop μ-loop
+add-two-rounds-2 c = search needs
+
+mul-two-rounds-3 : tie.Need-mul-two-rounds-3 Inv-loop μ-loop
+mul-two-rounds-3 c = search needs
+
+shared-slice-read-two-rounds-3 : tie.Need-shared-slice-read-two-rounds-3 Inv-loop μ-loop
+shared-slice-read-two-rounds-3 c = search needs
+
+add-two-rounds-3 : tie.Need-add-two-rounds-3 Inv-loop μ-loop
+add-two-rounds-3 c = search needs
+
+mul-two-rounds-4 : tie.Need-mul-two-rounds-4 Inv-loop μ-loop
+mul-two-rounds-4 c = search needs
+
+shared-slice-read-two-rounds-4 : tie.Need-shared-slice-read-two-rounds-4 Inv-loop μ-loop
+shared-slice-read-two-rounds-4 c = search needs
+
+two-rounds-requires : tie.Need-two-rounds-requires Inv-loop μ-loop
+two-rounds-requires c κs = search needs
+
+sub-left : tie.Need-sub-left Inv-loop μ-loop
+sub-left c = search needs
+
+add-i : tie.Need-add-i Inv-loop μ-loop
+add-i c = search needs
+
+loop-less : tie.Need-loop-less Inv-loop μ-loop
+loop-less c = search needs
+
+loop-again : tie.Need-loop-again Inv-loop μ-loop
+loop-again c =
+    let a : tie.At-loop Inv-loop μ-loop = c .before .before .before .before .before .before in
+    let w = a .before .before .args .w .now in
+    let h : 0 < a .loop .left = search needs in (
+      search needs,
+      rw (c .two-rounds .ensures w (a .loop .i) (record { first = refl; second = refl; third = refl; fourth = refl }))
+          (each-same (λ s. two-more (a .loop .left) w (a .loop .i) s h) (a .loop .t) ∙ a .loop .inv .1),
+    )
+
+returns : tie.Need-returns Inv-loop μ-loop
+unfolding rounds
+returns c =
+    let a : tie.At-loop Inv-loop μ-loop = c .before in
+    let z : a .loop .left ≡ 0 = search needs in
+    rw z at (a .loop .inv .1)
+
+pub rounds-by-two-spec : {M : Type 1} → statement M
+rounds-by-two-spec =
+    tie.close
+    (tie.spec
+    Inv-loop
+    μ-loop
+    loop-holds
+    mul-two-rounds
+    shared-slice-read-two-rounds
+    add-two-rounds
+    mul-two-rounds-2
+    shared-slice-read-two-rounds-2
+    add-two-rounds-2
+    mul-two-rounds-3
+    shared-slice-read-two-rounds-3
+    add-two-rounds-3
+    mul-two-rounds-4
+    shared-slice-read-two-rounds-4
+    two-rounds-requires
+    sub-left
+    add-i
+    loop-less
+    loop-again
+    returns)

@@ -1,0 +1,116 @@
+-- `network_rows::undo_by_two` meets its contract.
+use Prim.Native.Nat.{ℕ, _+_, _-_, _*_, _≤_, _<_}
+use mathlib.Core.Path.{_≡_, refl, sym, _∙_}
+use lib.ListN.{length}
+use borrow.Author.Needs.{needs}
+use Rattle.clefia_spec.specs.FFunction.{f0, f1}
+use Rattle.clefia_spec.specs.Network.{undoRounds}
+use Rattle.network_rows.specs.Four.{each, each-same, two-more-undone}
+use Rattle.network_rows.proofs.undo_by_two.Statement.{statement}
+use Rattle.network_rows.proofs.undo_by_two.Tie as tie
+
+abbrev Inv-loop : tie.InvT-loop
+Inv-loop words bytes w n at t₀ done₀ i₀ t done i = (done ≤ n) × (i + 4 * done ≡ at + 4 * n) × (t ≡ each (undoRounds 2 f0 f1 (2 * done) w i) t₀)
+
+abbrev μ-loop : tie.MeasureT-loop
+μ-loop words bytes w n at t₀ done₀ i₀ t done i = n - done
+
+mul-i : tie.Need-mul-i Inv-loop μ-loop
+mul-i c = search needs
+
+add-i : tie.Need-add-i Inv-loop μ-loop
+add-i c = search needs
+
+loop-holds : tie.Need-loop-holds Inv-loop μ-loop
+unfolding undoRounds
+loop-holds c = (search needs, search needs, refl)
+
+sub-i : tie.Need-sub-i Inv-loop μ-loop
+sub-i c = search needs
+
+mul-undo-two-rounds : tie.Need-mul-undo-two-rounds Inv-loop μ-loop
+mul-undo-two-rounds c = search needs
+
+shared-slice-read-undo-two-rounds : tie.Need-shared-slice-read-undo-two-rounds Inv-loop μ-loop
+shared-slice-read-undo-two-rounds c = search needs
+
+add-undo-two-rounds : tie.Need-add-undo-two-rounds Inv-loop μ-loop
+add-undo-two-rounds c = search needs
+
+mul-undo-two-rounds-2 : tie.Need-mul-undo-two-rounds-2 Inv-loop μ-loop
+mul-undo-two-rounds-2 c = search needs
+
+shared-slice-read-undo-two-rounds-2 : tie.Need-shared-slice-read-undo-two-rounds-2 Inv-loop μ-loop
+shared-slice-read-undo-two-rounds-2 c = search needs
+
+add-undo-two-rounds-2 : tie.Need-add-undo-two-rounds-2 Inv-loop μ-loop
+add-undo-two-rounds-2 c = search needs
+
+mul-undo-two-rounds-3 : tie.Need-mul-undo-two-rounds-3 Inv-loop μ-loop
+mul-undo-two-rounds-3 c = search needs
+
+shared-slice-read-undo-two-rounds-3 : tie.Need-shared-slice-read-undo-two-rounds-3 Inv-loop μ-loop
+shared-slice-read-undo-two-rounds-3 c = search needs
+
+add-undo-two-rounds-3 : tie.Need-add-undo-two-rounds-3 Inv-loop μ-loop
+add-undo-two-rounds-3 c = search needs
+
+mul-undo-two-rounds-4 : tie.Need-mul-undo-two-rounds-4 Inv-loop μ-loop
+mul-undo-two-rounds-4 c = search needs
+
+shared-slice-read-undo-two-rounds-4 : tie.Need-shared-slice-read-undo-two-rounds-4 Inv-loop μ-loop
+shared-slice-read-undo-two-rounds-4 c = search needs
+
+undo-two-rounds-requires : tie.Need-undo-two-rounds-requires Inv-loop μ-loop
+undo-two-rounds-requires c κs = search needs
+
+add-done : tie.Need-add-done Inv-loop μ-loop
+add-done c = search needs
+
+loop-less : tie.Need-loop-less Inv-loop μ-loop
+loop-less c = search needs
+
+loop-again : tie.Need-loop-again Inv-loop μ-loop
+loop-again c =
+    let a : tie.At-loop Inv-loop μ-loop = c .before .before .before .before .before .before in
+    let w = a .before .before .args .w .now in
+    let i : a .loop .i ≡ a .loop .i - 4 + 4 = search needs in (
+      search needs,
+      search needs,
+      c .undo-two-rounds .ensures w (a .loop .i - 4) (record { first = refl; second = refl; third = refl; fourth = refl })
+          ∙ rw (a .loop .inv .2) (each-same (λ s. two-more-undone (a .loop .done) w (a .loop .i - 4) (a .loop .i) s i) (a .before .before .args .s)),
+    )
+
+returns : tie.Need-returns Inv-loop μ-loop
+returns c =
+    let a : tie.At-loop Inv-loop μ-loop = c .before in
+    let n : a .loop .done ≡ a .before .before .args .n = search needs in
+    let i : a .loop .i ≡ a .before .before .args .at = search needs in
+    rw (a .loop .inv .2, n, i)
+
+pub undo-by-two-spec : {M : Type 1} → statement M
+undo-by-two-spec =
+    tie.close
+    (tie.spec
+    Inv-loop
+    μ-loop
+    mul-i
+    add-i
+    loop-holds
+    sub-i
+    mul-undo-two-rounds
+    shared-slice-read-undo-two-rounds
+    add-undo-two-rounds
+    mul-undo-two-rounds-2
+    shared-slice-read-undo-two-rounds-2
+    add-undo-two-rounds-2
+    mul-undo-two-rounds-3
+    shared-slice-read-undo-two-rounds-3
+    add-undo-two-rounds-3
+    mul-undo-two-rounds-4
+    shared-slice-read-undo-two-rounds-4
+    undo-two-rounds-requires
+    add-done
+    loop-less
+    loop-again
+    returns)
