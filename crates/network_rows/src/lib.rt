@@ -2,7 +2,7 @@
 ghost use mathlib.Core.Path.{_≡_};
 ghost use mathlib.Core.List.{List};
 ghost use Prim.Native.Nat.{ℕ, _+_, _*_, _≤_};
-ghost use lib.ListN.{length, getD};
+ghost use lib.ListN.{length};
 ghost use Rattle.clefia_spec.specs.FFunction.{f0, f1};
 ghost use Rattle.clefia_spec.specs.Network.{rotateLeft, rotateRight, rounds, undoRounds, network4, inverseNetwork4};
 ghost use Rattle.ffunction.specs.Tables.{Lent};

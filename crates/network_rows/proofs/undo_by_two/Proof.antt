@@ -1,7 +1,6 @@
 -- `network_rows::undo_by_two` meets its contract.
-use Prim.Native.Nat.{ℕ, _+_, _-_, _*_, _≤_, _<_}
-use mathlib.Core.Path.{_≡_, refl, sym, _∙_}
-use lib.ListN.{length}
+use Prim.Native.Nat.{_+_, _-_, _*_, _≤_}
+use mathlib.Core.Path.{_≡_, refl, _∙_}
 use borrow.Author.Needs.{needs}
 use Rattle.clefia_spec.specs.FFunction.{f0, f1}
 use Rattle.clefia_spec.specs.Network.{undoRounds}

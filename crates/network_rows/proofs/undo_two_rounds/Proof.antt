@@ -1,5 +1,4 @@
 -- `network_rows::undo_two_rounds` meets its contract.
-use Prim.Native.Nat.{ℕ}
 use mathlib.Core.Path.{_≡_}
 use lib.ListN.{length}
 use borrow.Author.Needs.{needs}

@@ -1,5 +1,4 @@
 -- `sheet::four::begin` meets its contract.
-use mathlib.Core.Path.{_≡_}
 use Rattle.clefia_spec.specs.DigitLaws.{below-all}
 use Rattle.sheet.specs.ChainLaws.{chain-start}
 use borrow.Author.Needs.{needs}

@@ -1,5 +1,4 @@
 -- `sheet::four::clear_holds` meets its contract.
-use mathlib.Core.Path.{_∙_}
 use borrow.Author.Needs.{needs}
 use Rattle.sheet.proofs.four.clear_holds.Statement.{statement}
 use Rattle.sheet.proofs.four.clear_holds.Tie as tie

@@ -1,12 +1,11 @@
 -- `sheet::four::four_hold` meets its contract: one record after the other.
-use Prim.Native.Nat.{_+_, _-_, _^_, _<_}
+use Prim.Native.Nat.{_+_, _-_, _^_}
 use mathlib.Core.Path.{_≡_, refl, ap}
 use native.Mathlib.Omega.{arith}
 use Rattle.clefia_spec.specs.Words.{Below}
 use Rattle.clefia_spec.specs.DigitLaws.{below-all}
 use Rattle.network_rows.specs.declared.FourRows.{FourRows}
-use Rattle.sheet.specs.ChainLaws.{Decrypted}
-use Rattle.sheet.specs.FourLaws.{decryptedFour, record-turn}
+use Rattle.sheet.specs.FourLaws.{record-turn}
 use borrow.Author.Needs.{needs}
 use Rattle.sheet.proofs.four.four_hold.Statement.{statement}
 use Rattle.sheet.proofs.four.four_hold.Tie as tie

@@ -1,5 +1,5 @@
 -- `sheet::four::write_four` meets its contract: one record after the other.
-use Prim.Native.Nat.{_+_, _-_, _^_, _<_}
+use Prim.Native.Nat.{_+_, _-_, _^_}
 use mathlib.Core.Path.{_≡_, ap}
 use native.Mathlib.Omega.{arith}
 use Rattle.clefia_spec.specs.Words.{Below}

@@ -1,6 +1,5 @@
 -- `sheet::four::write_fours` meets its contract: `left` records are to come, the first of them at `at`.
-use Prim.Native.Nat.{ℕ}
-use mathlib.Core.Path.{_≡_, sym, _∙_}
+use mathlib.Core.Path.{sym, _∙_}
 use mathlib.Core.Bool.{true}
 use borrow.Author.Needs.{needs}
 use Rattle.clefia_spec.specs.DigitLaws.{below-all}

@@ -3,7 +3,6 @@ use mathlib.Core.Path.{_≡_, sym, _∙_}
 use mathlib.Core.Bool.{true}
 use borrow.Author.Needs.{needs}
 use borrow.Author.Tests.{not-true, not-false}
-use Rattle.clefia_spec.specs.Words.{wordsOf}
 use Rattle.clefia_spec.specs.DigitLaws.{below-all}
 use Rattle.form.specs.Entry.{sheetOf}
 use Rattle.sheet.specs.ChainLaws.{Decrypted, decrypted-start, decrypted-broken}
