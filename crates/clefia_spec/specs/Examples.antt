@@ -37,16 +37,16 @@ expandedKeys =
     0x521213ce ∷ 0x4f1f59d8 ∷ 0xc13624f6 ∷ 0xee91f6a4 ∷ 0x17f68fde ∷ 0xf6c360a9 ∷ 0x6288bc72 ∷ 0xc0ad856b ∷ [])
     ∷ []
 
--- WK, RK0 and RK1 of the 24-byte key.
+-- WK, RK0 and RK1 of the 16-byte key: six words that all differ.
 abbrev oneRound : List ℕ
-oneRound = 0x0f0e0d0c ∷ 0x0b0a0908 ∷ 0x77777777 ∷ 0x77777777 ∷ 0x4d3bfd1b ∷ 0x7a1f5dfa ∷ []
+oneRound = 0xffeeddcc ∷ 0xbbaa9988 ∷ 0x77665544 ∷ 0x33221100 ∷ 0xf3e6cef9 ∷ 0x8df75e38 ∷ []
 
 -- A block and what one round makes of it: the paper's first round, rotated back, with the last two whitening words added.
 abbrev pub clearBlock : List ℕ
 clearBlock = 0 ∷ 1 ∷ 2 ∷ 3 ∷ 4 ∷ 5 ∷ 6 ∷ 7 ∷ 8 ∷ 9 ∷ 10 ∷ 11 ∷ 12 ∷ 13 ∷ 14 ∷ 15 ∷ []
 
 abbrev roundedBlock : List ℕ
-roundedBlock = 0x00 ∷ 0x01 ∷ 0x02 ∷ 0x03 ∷ 0xc9 ∷ 0x7e ∷ 0x66 ∷ 0x47 ∷ 0x08 ∷ 0x09 ∷ 0x0a ∷ 0x0b ∷ 0xb3 ∷ 0xe7 ∷ 0x86 ∷ 0x5b ∷ []
+roundedBlock = 0x00 ∷ 0x01 ∷ 0x02 ∷ 0x03 ∷ 0xd8 ∷ 0xf7 ∷ 0xbf ∷ 0x1c ∷ 0x08 ∷ 0x09 ∷ 0x0a ∷ 0x0b ∷ 0x2f ∷ 0x74 ∷ 0xa6 ∷ 0xf7 ∷ []
 
 pub blockExamples : List Case
 blockExamples =
