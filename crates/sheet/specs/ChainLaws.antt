@@ -156,9 +156,13 @@ and-assoc : (x y z : Bool) → ((x && y) && z) ≡ (x && (y && z))
 and-assoc true y z = refl
 and-assoc false y z = refl
 
-and-true : (x : Bool) → (x && true) ≡ x
+pub and-true : (x : Bool) → (x && true) ≡ x
 and-true true = refl
 and-true false = refl
+
+pub and-false : (x : Bool) → (x && false) ≡ false
+and-false true = refl
+and-false false = refl
 
 -- So far all records have held, or not (b); `left` are to come.
 pub record Decrypted (b : Bool) (w entry body : List ℕ) (at left : ℕ) (p : List ℕ) : Type 0 where

@@ -48,8 +48,16 @@ fn clear_holds(sheet: Sheet, previous: [u32; 4], t: [u32; 4]) -> bool
     record::record_holds(sheet, rows::xors4(previous, t))
 }
 
-// Whether the four records that stand at `at` hold; `previous` went before them.
+// How often four of n records go at once: by word tables as long as there are four; other tables leave nothing to wait for, and there never.
+pub fn fours(words: &[[u32; 256]], n: usize) -> usize
+    ensures { λ r. ⌜ 4 * r ≤ n ⌝ }
+{
+    if words.len() == 8 { n / 4 } else { 0 }
+}
+
+// Whether the records so far hold and the four that stand at `at` too; `previous` went before them.
 pub fn four_hold(
+    held: bool,
     words: &[[u32; 256]],
     bytes: &[[u8; 256]],
     w: &[u32],
@@ -60,7 +68,7 @@ pub fn four_hold(
 ) -> bool
     requires { ⌜ Lent (now words) (now bytes) ⌝ }
     requires { ⌜ (4 ≤ length (now w)) × (at + 64 ≤ length (now body)) ⌝ }
-    ensures { λ r. ⌜ ((e : List ℕ) (left : ℕ) → sheet ≡ sheetOf e → length (now (body .entry)) ≡ 16 * count e → Decrypted true (now (w .entry)) e (now (body .entry)) at left previous → 4 ≤ left → Decrypted r (now (w .entry)) e (now (body .entry)) (at + 64) (left - 4) (wordsOf 4 (drop (at + 48) (now (body .entry))))) ⌝ }
+    ensures { λ r. ⌜ ((e : List ℕ) (left : ℕ) → sheet ≡ sheetOf e → length (now (body .entry)) ≡ 16 * count e → Decrypted held (now (w .entry)) e (now (body .entry)) at left previous → 4 ≤ left → Decrypted r (now (w .entry)) e (now (body .entry)) (at + 64) (left - 4) (wordsOf 4 (drop (at + 48) (now (body .entry))))) ⌝ }
 {
     let t = decrypt_four(words, bytes, w, body, at);
     let a = t.a;
@@ -73,7 +81,7 @@ pub fn four_hold(
     let q = clear_holds(sheet, rows::load(body, at), b);
     let r = clear_holds(sheet, rows::load(body, second), c);
     let s = clear_holds(sheet, rows::load(body, third), d);
-    entry::all(true, p, q, r, s)
+    entry::all(held, p, q, r, s)
 }
 
 // A decrypted block t added to the encrypted one before it, and written at `at`; the encrypted one that stands there is read.

@@ -1,7 +1,6 @@
 // Check 11 of one encrypted sheet. `entry` is the sheet's entry.
 ghost use mathlib.Core.Path.{_≡_};
 ghost use Prim.Native.Nat.{_*_, _≤_};
-ghost use mathlib.Core.Bool.{true};
 ghost use lib.ListN.{length};
 ghost use Rattle.clefia_spec.specs.Block.{decryptUnder};
 ghost use Rattle.planbook_spec.specs.Book.{count, sheetHolds, decryptBody};
@@ -12,8 +11,9 @@ use super::four;
 use form::entry;
 use form::record;
 
-// The last `n` records, which stand from `from` on, one by one; `before` went before them.
+// Whether the records so far hold and the last `n` too, which stand from `from` on, one by one; `before` went before them.
 fn rest_holds(
+    held: bool,
     words: &[[u32; 256]],
     bytes: &[[u8; 256]],
     w: &[u32],
@@ -26,7 +26,7 @@ fn rest_holds(
     requires { ⌜ Lent (now words) (now bytes) ⌝ }
     requires { ⌜ (4 ≤ length (now w)) × (length (now entry) ≡ 24) ⌝ }
     requires { ⌜ length (now body) ≡ 16 * count (now entry) ⌝ }
-    requires { ⌜ Decrypted true (now w) (now entry) (now body) from n before ⌝ }
+    requires { ⌜ Decrypted held (now w) (now entry) (now body) from n before ⌝ }
     ensures { λ r. ⌜ r ≡ sheetHolds (now (entry .entry)) (decryptBody (decryptUnder (now (w .entry))) (now (entry .entry)) (now (body .entry))) ⌝ }
 {
     let sheet = entry::read_sheet(entry);
@@ -45,10 +45,11 @@ fn rest_holds(
         left -= 1;
         at = end;
     }
-    true
+    held
 }
 
-// Every record of an encrypted body, decrypted and dropped again: nothing is written. By word tables they go four at a time as long as there are four.
+// Every record of an encrypted body, decrypted and dropped again: nothing is written. By word tables they go four at a time as long as there are four, and no
+// four ends the loop: with one way out more the compiler would take the rest for seldom, and keep its rounds out of line (DECISIONS).
 pub fn decrypted_sheet_holds(
     words: &[[u32; 256]],
     bytes: &[[u8; 256]],
@@ -66,17 +67,16 @@ pub fn decrypted_sheet_holds(
     let mut previous = chain.previous;
     let mut left = sheet.count;
     let mut at = 0;
-    if words.len() != 8 {
-        return rest_holds(words, bytes, w, entry, body, at, left, previous);
-    }
-    while 4 <= left {
-        if !four::four_hold(words, bytes, w, sheet, body, at, previous) {
-            return false;
-        }
+    let mut holds = true;
+    let mut fours = four::fours(words, left);
+    while 0 < fours {
+        let more = four::four_hold(holds, words, bytes, w, sheet, body, at, previous);
+        holds = more;
         let next = rows::load(body, at + 48);
         previous = next;
         left -= 4;
         at += 64;
+        fours -= 1;
     }
-    rest_holds(words, bytes, w, entry, body, at, left, previous)
+    rest_holds(holds, words, bytes, w, entry, body, at, left, previous)
 }

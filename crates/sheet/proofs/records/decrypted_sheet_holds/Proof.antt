@@ -1,25 +1,28 @@
--- `sheet::records::decrypted_sheet_holds` meets its contract: `left` records are to come, the first of them at `at`.
-use mathlib.Core.Path.{_≡_, sym, _∙_}
+-- `sheet::records::decrypted_sheet_holds` meets its contract: `left` records are to come, the first of them at `at`; of these, `fours` times four go at once.
+use Prim.Native.Nat.{_*_, _≤_}
+use mathlib.Core.Path.{_≡_}
 use mathlib.Core.Bool.{true}
 use borrow.Author.Needs.{needs}
-use borrow.Author.Tests.{not-true, not-false}
 use Rattle.clefia_spec.specs.DigitLaws.{below-all}
 use Rattle.form.specs.Entry.{sheetOf}
-use Rattle.sheet.specs.ChainLaws.{Decrypted, decrypted-start, decrypted-broken}
+use Rattle.sheet.specs.ChainLaws.{Decrypted, decrypted-start}
 use Rattle.sheet.proofs.records.decrypted_sheet_holds.Statement.{statement}
 use Rattle.sheet.proofs.records.decrypted_sheet_holds.Tie as tie
 
 abbrev Inv-loop : tie.InvT-loop
-Inv-loop words bytes w entry body sheet previous₀ left₀ at₀ previous left at = (sheet ≡ sheetOf entry) × Decrypted true w entry body at left previous
+Inv-loop words bytes w entry body sheet previous₀ left₀ at₀ holds₀ fours₀ previous left at holds fours = (sheet ≡ sheetOf entry) × Decrypted holds w entry body at left previous × (4 * fours ≤ left)
 
 abbrev μ-loop : tie.MeasureT-loop
-μ-loop words bytes w entry body sheet previous₀ left₀ at₀ previous left at = left
+μ-loop words bytes w entry body sheet previous₀ left₀ at₀ holds₀ fours₀ previous left at holds fours = fours
 
 read-sheet-requires : tie.Need-read-sheet-requires Inv-loop μ-loop
 read-sheet-requires c κs = search needs
 
 new-requires : tie.Need-new-requires Inv-loop μ-loop
 new-requires c κs = search needs
+
+fours-requires : tie.Need-fours-requires Inv-loop μ-loop
+fours-requires c κs = search needs
 
 -- before the first record
 begun : (c : tie.After-previous Inv-loop μ-loop) →
@@ -30,24 +33,11 @@ begun c =
     let r : c .before .before .read-sheet .result ≡ _ = c .before .before .read-sheet .ensures in
     rw (r, c .before .new .ensures) (decrypted-start (s .args .w .now) (s .args .entry .now) (s .args .body .now) (below-all (s .args .entry .now) (λ j h. c .before .before .before .before .shared-slice-known2 .given j .fits)) (s .pre .1 .0 .1))
 
-rest-holds-requires : tie.Need-rest-holds-requires Inv-loop μ-loop
-rest-holds-requires c κs = (search needs, (search needs, (search needs, begun (c .before))))
-
-returns : tie.Need-returns Inv-loop μ-loop
-returns c = c .rest-holds .ensures
-
 loop-holds : tie.Need-loop-holds Inv-loop μ-loop
-loop-holds c = (c .before .before .before .read-sheet .ensures, begun (c .before))
+loop-holds c = (c .before .before .before .read-sheet .ensures, begun (c .before), c .fours .ensures)
 
 four-hold-requires : tie.Need-four-hold-requires Inv-loop μ-loop
 four-hold-requires c κs = search needs
-
-returns-2 : tie.Need-returns-2 Inv-loop μ-loop
-returns-2 c =
-    let a : tie.At-loop Inv-loop μ-loop = c .before .before .before in
-    let s : tie.Start Inv-loop μ-loop = a .before .before .before .before .before .before .before .before in
-    let b : c .before .four-hold .result ≡ _ = not-true _ (c .if2 .taken) in
-    sym b ∙ decrypted-broken (c .before .four-hold .ensures (s .args .entry .now) (a .loop .left) (a .loop .inv .0) (s .pre .1 .1) (a .loop .inv .1) (c .before .before .loop-test .taken)) b
 
 add-load : tie.Need-add-load Inv-loop μ-loop
 add-load c = search needs
@@ -55,24 +45,32 @@ add-load c = search needs
 load-requires : tie.Need-load-requires Inv-loop μ-loop
 load-requires c κs = search needs
 
+sub-left : tie.Need-sub-left Inv-loop μ-loop
+sub-left c = search needs
+
 add-at : tie.Need-add-at Inv-loop μ-loop
 add-at c = search needs
+
+sub-fours : tie.Need-sub-fours Inv-loop μ-loop
+sub-fours c = search needs
 
 loop-less : tie.Need-loop-less Inv-loop μ-loop
 loop-less c = search needs
 
 loop-again : tie.Need-loop-again Inv-loop μ-loop
 loop-again c =
-    let a : tie.At-loop Inv-loop μ-loop = c .before .before .before .before in
-    let s : tie.Start Inv-loop μ-loop = a .before .before .before .before .before .before .before .before in
-    let b : c .before .before .four-hold .result ≡ true = not-false _ (c .before .if2 .left) in
-    (a .loop .inv .0, rw (c .load .ensures) (rw b at (c .before .before .four-hold .ensures (s .args .entry .now) (a .loop .left) (a .loop .inv .0) (s .pre .1 .1) (a .loop .inv .1) (c .before .before .before .loop-test .taken))))
+    let a : tie.At-loop Inv-loop μ-loop = c .before .before .before in
+    let s : tie.Start Inv-loop μ-loop = a .before .before .before .before .before .before .before .before in (
+      a .loop .inv .0,
+      rw (c .load .ensures) (c .before .four-hold .ensures (s .args .entry .now) (a .loop .left) (a .loop .inv .0) (s .pre .1 .1) (a .loop .inv .1) (search needs)),
+      search needs,
+    )
 
-rest-holds-requires-2 : tie.Need-rest-holds-requires-2 Inv-loop μ-loop
-rest-holds-requires-2 c κs = (search needs, (search needs, (search needs, c .before .loop .inv .1)))
+rest-holds-requires : tie.Need-rest-holds-requires Inv-loop μ-loop
+rest-holds-requires c κs = (search needs, (search needs, (search needs, c .before .loop .inv .1)))
 
-returns-3 : tie.Need-returns-3 Inv-loop μ-loop
-returns-3 c = c .rest-holds2 .ensures
+returns : tie.Need-returns Inv-loop μ-loop
+returns c = c .rest-holds .ensures
 
 pub decrypted-sheet-holds-spec : {M : Type 1} → statement M
 decrypted-sheet-holds-spec =
@@ -82,15 +80,15 @@ decrypted-sheet-holds-spec =
     μ-loop
     read-sheet-requires
     new-requires
-    rest-holds-requires
-    returns
+    fours-requires
     loop-holds
     four-hold-requires
-    returns-2
     add-load
     load-requires
+    sub-left
     add-at
+    sub-fours
     loop-less
     loop-again
-    rest-holds-requires-2
-    returns-3)
+    rest-holds-requires
+    returns)

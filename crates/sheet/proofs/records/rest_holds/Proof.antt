@@ -1,7 +1,7 @@
 -- `sheet::records::rest_holds` meets its contract: `left` records are to come, the first of them at `at`.
 use Prim.Native.Nat.{ℕ, _+_, _-_, _^_}
 use mathlib.Core.Path.{_≡_, sym, ap, _∙_}
-use mathlib.Core.Bool.{true}
+use mathlib.Core.Bool.{Bool, true, false, _&&_}
 use mathlib.Core.List.{List}
 use borrow.Author.Needs.{needs}
 use borrow.Author.Tests.{not-true, not-false}
@@ -12,15 +12,15 @@ use Rattle.clefia_spec.specs.Block.{decryptWords}
 use Rattle.planbook_spec.specs.Book.{recordHolds}
 use Rattle.form.specs.Entry.{sheetOf}
 use Rattle.sheet.specs.declared.chain.Step.{Step}
-use Rattle.sheet.specs.ChainLaws.{Decrypted, decrypted-broken, decrypted-step, decrypted-end}
+use Rattle.sheet.specs.ChainLaws.{Decrypted, and-true, and-false, decrypted-broken, decrypted-step, decrypted-end}
 use Rattle.sheet.proofs.records.rest_holds.Statement.{statement}
 use Rattle.sheet.proofs.records.rest_holds.Tie as tie
 
 abbrev Inv-loop : tie.InvT-loop
-Inv-loop words bytes w entry body from n sheet chain₀ left₀ at₀ chain left at = (sheet ≡ sheetOf entry) × Decrypted true w entry body at left (chain .previous)
+Inv-loop held words bytes w entry body from n sheet chain₀ left₀ at₀ chain left at = (sheet ≡ sheetOf entry) × Decrypted held w entry body at left (chain .previous)
 
 abbrev μ-loop : tie.MeasureT-loop
-μ-loop words bytes w entry body from n sheet chain₀ left₀ at₀ chain left at = left
+μ-loop held words bytes w entry body from n sheet chain₀ left₀ at₀ chain left at = left
 
 abbrev start : tie.At-loop Inv-loop μ-loop → tie.Start Inv-loop μ-loop
 start a = a .before .before .before .before .before
@@ -66,13 +66,16 @@ record-holds-requires c κs = search needs
 looked : (c : tie.After-record-holds Inv-loop μ-loop) →
     let a : tie.At-loop Inv-loop μ-loop = c .before .before .before .before .before in
     let s : tie.Start Inv-loop μ-loop = start a in
-    Decrypted (c .record-holds .result) (s .args .w .now) (s .args .entry .now) (s .args .body .now) (a .loop .at + 16) (a .loop .left - 1) (wordsOf 4 (drop (a .loop .at) (s .args .body .now)))
+    Decrypted (s .args .held && c .record-holds .result) (s .args .w .now) (s .args .entry .now) (s .args .body .now) (a .loop .at + 16) (a .loop .left - 1) (wordsOf 4 (drop (a .loop .at) (s .args .body .now)))
 looked c =
     let a : tie.At-loop Inv-loop μ-loop = c .before .before .before .before .before in
     decrypted-step (a .loop .inv .1) (keys a) (bytes a) (start a .pre .1 .1 .0) (c .before .before .before .before .loop-test .taken) (tested c)
 
 returns : tie.Need-returns Inv-loop μ-loop
-returns c = sym (not-true _ (c .if1 .taken)) ∙ decrypted-broken (looked (c .before)) (not-true _ (c .if1 .taken))
+returns c =
+    let s : tie.Start Inv-loop μ-loop = start (c .before .before .before .before .before .before) in
+    let b : (s .args .held && c .before .record-holds .result) ≡ false = ap (λ (x : Bool). s .args .held && x) (not-true _ (c .if1 .taken)) ∙ and-false (s .args .held) in
+    sym b ∙ decrypted-broken (looked (c .before)) b
 
 sub-left : tie.Need-sub-left Inv-loop μ-loop
 sub-left c = search needs
@@ -84,7 +87,8 @@ loop-again : tie.Need-loop-again Inv-loop μ-loop
 loop-again c =
     let r : tie.After-record-holds Inv-loop μ-loop = c .before .before in
     let d : tie.After-decrypt Inv-loop μ-loop = r .before .before in
-    let b : r .record-holds .result ≡ true = not-false _ (c .before .if1 .left) in
+    let s : tie.Start Inv-loop μ-loop = start (d .before .before .before) in
+    let b : (s .args .held && r .record-holds .result) ≡ s .args .held = ap (λ (x : Bool). s .args .held && x) (not-false _ (c .before .if1 .left)) ∙ and-true (s .args .held) in
     (d .before .before .before .loop .inv .0, rw (d .decrypt .ensures, d .before .load .ensures) (rw b at (looked r)))
 
 returns-2 : tie.Need-returns-2 Inv-loop μ-loop
