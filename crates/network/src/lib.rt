@@ -30,6 +30,22 @@ fn feistel4(words: &[[u32; 256]], bytes: &[[u8; 256]], a: u32, b: u32, s: [u32; 
     [s[0], y, s[2], z]
 }
 
+// The same step with F1 worked out first.
+fn feistel4_f1_first(
+    words: &[[u32; 256]],
+    bytes: &[[u8; 256]],
+    a: u32,
+    b: u32,
+    s: [u32; 4],
+) -> [u32; 4]
+    requires { ⌜ Lent (now words) (now bytes) ⌝ }
+    ensures { λ r. ⌜ ((w : List ℕ) (i : ℕ) → a ≡ getD w i 0 → b ≡ getD w (i + 1) 0 → r ≡ feistel f0 f1 w i s) ⌝ }
+{
+    let z = ffunction::f1(words, bytes, b, s[2], s[3]);
+    let y = ffunction::f0(words, bytes, a, s[0], s[1]);
+    [s[0], y, s[2], z]
+}
+
 // n rounds with the round keys from `at` on.
 pub fn network4(
     words: &[[u32; 256]],
@@ -55,7 +71,8 @@ pub fn network4(
     rotate_right4(t)
 }
 
-// The same rounds taken back, the last one first.
+// The same rounds taken back, the last one first, two in a turn. Here F0 waits for the F1 of the round taken back before, and F1 for its F0: worked out
+// by turns in either order, each has to wait for the last but one (DECISIONS).
 pub fn inverse_network4(
     words: &[[u32; 256]],
     bytes: &[[u8; 256]],
@@ -69,13 +86,18 @@ pub fn inverse_network4(
     ensures { λ r. ⌜ r ≡ inverseNetwork4 n (now (w .entry)) at s ⌝ }
 {
     let mut t = rotate_left4(s);
-    let mut done = 0;
+    let mut left = n;
     let mut i = at + 2 * n;
-    while done < n {
-        i -= 2;
-        let next = feistel4(words, bytes, w[i], w[i + 1], rotate_right4(t));
+    while 1 < left {
+        let last = i - 2;
+        let u = feistel4(words, bytes, w[last], w[last + 1], rotate_right4(t));
+        i -= 4;
+        let next = feistel4_f1_first(words, bytes, w[i], w[i + 1], rotate_right4(u));
         t = next;
-        done += 1;
+        left -= 2;
+    }
+    if left == 1 {
+        return feistel4(words, bytes, w[at], w[at + 1], rotate_right4(t));
     }
     t
 }
