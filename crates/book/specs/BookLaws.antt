@@ -17,8 +17,8 @@ use Rattle.planbook_spec.specs.WalkLaws.{recoded-front, bodies-at}
 use Rattle.form.specs.Form.{formAnswer}
 use Rattle.planbook_spec.specs.BookLaws.{Formed, formed}
 use Rattle.answer.specs.Judging.{stopped, stopped-first, passed-first, Went, went, given-refused, given-accepted}
-use Rattle.sheet.specs.Recode.{recodedBody}
-use Rattle.book.specs.Bodies.{markOf, clearBody, bookAnswer, recodedBook}
+use Rattle.chain.specs.Recode.{recodedBody}
+use Rattle.book.specs.Directions.{markOf, clearBody, bookAnswer, recodedBook}
 
 -- The front and the bodies are the book.
 pub recoded-whole : (mark : ℕ) (f : List ℕ → List ℕ → List ℕ) {book : List ℕ} {front : List ℕ} → Formed book → front ≡ set (take (4 + 24 * sheetCount book) book) 0 mark

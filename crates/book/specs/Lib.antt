@@ -1,3 +1,2 @@
-pub mod Bodies
-pub mod BodiesLaws
+pub mod Directions
 pub mod BookLaws

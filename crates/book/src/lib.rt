@@ -1,7 +1,5 @@
 // Plan books encrypted and decrypted under expanded words and lent tables; never under a key.
 // (Document 01's terms are sealing and opening a book; a clear book has the first byte 1, and an encrypted one 2.)
-pub mod bodies;
-pub mod front;
 pub mod records;
 
 ghost use mathlib.Core.Path.{_≡_};
@@ -14,8 +12,8 @@ ghost use Rattle.planbook_spec.specs.Book.{recoded, encryptBookBy, decryptBookB
 ghost use Rattle.answer.specs.Answer.{Given};
 ghost use Rattle.ffunction.specs.Tables.{Lent};
 ghost use Rattle.planbook_spec.specs.BookLaws.{Formed};
-ghost use Rattle.sheet.specs.Recode.{recodedBody};
-ghost use Rattle.book.specs.Bodies.{Ready, markOf, bookAnswer, recodedBook};
+ghost use Rattle.chain.specs.Recode.{recodedBody};
+ghost use Rattle.book.specs.Directions.{Ready, markOf, bookAnswer, recodedBook};
 use answer::Answer;
 
 // The first byte of the book that a call is given: 2 where it is encrypted, and so to be decrypted, else 1.
@@ -38,7 +36,7 @@ fn write_book(
     requires { ⌜ (4 ≤ length (now w)) × Formed (now book) × (length (now out) ≡ length (now book)) ⌝ }
     ensures { λ r. ⌜ now (out .exit) ≡ recoded (markOf (not decrypting)) (recodedBody decrypting (now (w .entry))) (now (book .entry)) ⌝ }
 {
-    front::copy_front(mark(!decrypting), book, out);
+    bodies::front::copy_front(mark(!decrypting), book, out);
     bodies::recode_bodies(decrypting, words, bytes, w, book, out);
 }
 

@@ -5,10 +5,9 @@ ghost use lib.ListN.{length};
 ghost use Rattle.planbook_spec.specs.Book.{count, sheetHolds, contents, bodies, sheetsHold};
 ghost use mathlib.Core.Bool.{true};
 ghost use Rattle.planbook_spec.specs.BookLaws.{Formed};
-ghost use Rattle.book.specs.Bodies.{Ready, clearBody};
-use super::bodies;
-use form::entry;
-use form::record;
+ghost use Rattle.book.specs.Directions.{Ready, clearBody};
+use entries::entry;
+use entries::record;
 use sheet::records;
 
 pub fn sheet_holds(

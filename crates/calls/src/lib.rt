@@ -12,13 +12,13 @@ pub fn constants(key_length: u64, out: &mut [u8]) -> Answer
     ensures { λ r. ⌜ Given (constantsCall «key_length» (now (out .entry))) (now (out .entry)) r (now (out .exit)) ⌝ }
 {
     if key_length == 16 {
-        return checks::write_words(&schedule::constants::sixteen(), out);
+        return checks::write_words(&constant_tables::sixteen(), out);
     }
     if key_length == 24 {
-        return checks::write_words(&schedule::constants::twenty_four(), out);
+        return checks::write_words(&constant_tables::twenty_four(), out);
     }
     if key_length == 32 {
-        return checks::write_words(&schedule::constants::thirty_two(), out);
+        return checks::write_words(&constant_tables::thirty_two(), out);
     }
     Answer::Refused(1)
 }
@@ -80,16 +80,7 @@ fn perform_by(
         return perform(task, &word_tables::all(), &[], key, w, iv, src, out);
     }
     if way == 1 {
-        return perform(
-            task,
-            &[],
-            &sbox::tables::byte_tables(),
-            key,
-            w,
-            iv,
-            src,
-            out,
-        );
+        return perform(task, &[], &byte_tables::byte_tables(), key, w, iv, src, out);
     }
     perform(task, &[], &[], key, w, iv, src, out)
 }

@@ -1,11 +1,11 @@
 -- The tables that F0 and F1 may be given, by the rules, and F0 and F1 by number.
 use Prim.Native.Nat.{ℕ, zero, suc, _+_, _-_, _/_, _%_}
-use mathlib.Core.Path.{_≡_}
+use mathlib.Core.Path.{_≡_, refl}
 use mathlib.Core.List.{List, [], _∷_}
 use lib.ListN.{length}
-use Rattle.clefia_spec.specs.Words.{fromDigits, toDigits}
+use Rattle.clefia_spec.specs.Words.{_⊕_, fromDigits, toDigits}
 use Rattle.clefia_spec.specs.Field.{product}
-use Rattle.clefia_spec.specs.FFunction.{m0, m1, entry, matrixTimes, substitute}
+use Rattle.clefia_spec.specs.FFunction.{m0, m1, entry, matrixTimes, substitute, f0, f1}
 use Rattle.gf256.specs.Values.{values}
 use Rattle.sbox.specs.Boxes.{box}
 unfoldable pub use Rattle.sbox.specs.Boxes.{byteTables}
@@ -18,6 +18,14 @@ matrix (suc f) = m1
 -- F0 (f is 0) or F1 (f is 1) after the round key is added: the boxes by turns, beginning with number f, and the matrix.
 unfoldable pub mix : ℕ → ℕ → ℕ
 mix f z = matrixTimes (matrix f) (substitute (box f) (box (1 - f)) (toDigits 256 4 z))
+
+pub mix-f0 : (k x : ℕ) → mix 0 (k ⊕ x) ≡ f0 k x
+unfolding mix matrix box f0
+mix-f0 k x = refl
+
+pub mix-f1 : (k x : ℕ) → mix 1 (k ⊕ x) ≡ f1 k x
+unfolding mix matrix box f1
+mix-f1 k x = refl
 
 -- Column j of a matrix times a byte, as a word.
 unfoldable pub columnTimes : List ℕ → ℕ → ℕ → ℕ

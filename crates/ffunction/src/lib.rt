@@ -21,8 +21,8 @@ fn column(words: &[[u32; 256]], f: usize, j: usize, x: usize) -> u32
     words[4 * f + j][x]
 }
 
-// By word tables: one entry for each byte, added to y. A round waits for the sum: what is known first is added first (DECISIONS).
-fn by_words(words: &[[u32; 256]], f: usize, z: u32, y: u32) -> u32
+// F0 (f is 0) or F1 (f is 1) after the round key is added, by word tables: one entry for each byte, added to y. A round waits for the sum: what is known first is added first (DECISIONS).
+pub fn by_words(words: &[[u32; 256]], f: usize, z: u32, y: u32) -> u32
     requires { ⌜ f < 2 ⌝ }
     requires { ⌜ now words ≡ wordTables ⌝ }
     ensures { λ r. ⌜ r ≡ y ⊕ mix f z ⌝ }
@@ -34,47 +34,30 @@ fn by_words(words: &[[u32; 256]], f: usize, z: u32, y: u32) -> u32
         ^ column(words, f, 1, (z / 65536 % 256) as usize)
 }
 
-// Four bytes through the boxes by turns, beginning with box i: by the lent tables, and by the rules.
-fn by_tables(bytes: &[[u8; 256]], i: usize, a: u8, b: u8, c: u8, d: u8) -> [u8; 4]
+// The four bytes of a word through the boxes by turns, beginning with box i: by the lent tables, and by the rules.
+fn substitute_by_tables(bytes: &[[u8; 256]], i: usize, z: u32) -> [u8; 4]
     requires { ⌜ i < 2 ⌝ }
     requires { ⌜ now bytes ≡ byteTables ⌝ }
-    ensures { λ r. ⌜ r ≡ box i a ∷ box (1 - i) b ∷ box i c ∷ box (1 - i) d ∷ [] ⌝ }
-{
-    [
-        by_table(bytes, i, a),
-        by_table(bytes, 1 - i, b),
-        by_table(bytes, i, c),
-        by_table(bytes, 1 - i, d),
-    ]
-}
-
-fn by_rules(i: usize, a: u8, b: u8, c: u8, d: u8) -> [u8; 4]
-    requires { ⌜ i < 2 ⌝ }
-    ensures { λ r. ⌜ r ≡ box i a ∷ box (1 - i) b ∷ box i c ∷ box (1 - i) d ∷ [] ⌝ }
-{
-    [
-        by_rule(i, a),
-        by_rule(1 - i, b),
-        by_rule(i, c),
-        by_rule(1 - i, d),
-    ]
-}
-
-// The same of the four bytes of a word: by the tables where they are lent.
-fn substitute(bytes: &[[u8; 256]], i: usize, z: u32) -> [u8; 4]
-    requires { ⌜ i < 2 ⌝ }
-    requires { ⌜ (length (now bytes) ≡ 2 → now bytes ≡ byteTables) ⌝ }
     ensures { λ r. ⌜ r ≡ substitute (box i) (box (1 - i)) (toDigits 256 4 z) ⌝ }
 {
-    let a = (z / 16777216 % 256) as u8;
-    let b = (z / 65536 % 256) as u8;
-    let c = (z / 256 % 256) as u8;
-    let d = (z % 256) as u8;
-    if bytes.len() == 2 {
-        by_tables(bytes, i, a, b, c, d)
-    } else {
-        by_rules(i, a, b, c, d)
-    }
+    [
+        by_table(bytes, i, (z / 16777216 % 256) as u8),
+        by_table(bytes, 1 - i, (z / 65536 % 256) as u8),
+        by_table(bytes, i, (z / 256 % 256) as u8),
+        by_table(bytes, 1 - i, (z % 256) as u8),
+    ]
+}
+
+fn substitute_by_rules(i: usize, z: u32) -> [u8; 4]
+    requires { ⌜ i < 2 ⌝ }
+    ensures { λ r. ⌜ r ≡ substitute (box i) (box (1 - i)) (toDigits 256 4 z) ⌝ }
+{
+    [
+        by_rule(i, (z / 16777216 % 256) as u8),
+        by_rule(1 - i, (z / 65536 % 256) as u8),
+        by_rule(i, (z / 256 % 256) as u8),
+        by_rule(1 - i, (z % 256) as u8),
+    ]
 }
 
 // A row of a matrix, a b c d, times four bytes.
@@ -96,16 +79,50 @@ fn matrix_times(a: u8, b: u8, c: u8, d: u8, y: [u8; 4]) -> u32
     )
 }
 
-// Byte by byte, added to y. It is one function for F0 and F1, too large to be inlined, so that the rounds that call it stay small (DECISIONS).
-fn by_bytes(bytes: &[[u8; 256]], f: usize, z: u32, y: u32) -> u32
+// F0 (f is 0) or F1 (f is 1) after the round key is added, byte by byte, added to y: by the lent tables, and by the rules. They are two functions all the
+// way, so that the first of them calls nothing (DECISIONS).
+fn by_tables(bytes: &[[u8; 256]], f: usize, z: u32, y: u32) -> u32
     requires { ⌜ f < 2 ⌝ }
-    requires { ⌜ (length (now bytes) ≡ 2 → now bytes ≡ byteTables) ⌝ }
+    requires { ⌜ now bytes ≡ byteTables ⌝ }
     ensures { λ r. ⌜ r ≡ y ⊕ mix f z ⌝ }
 {
     if f == 0 {
-        y ^ matrix_times(0x01, 0x02, 0x04, 0x06, substitute(bytes, 0, z))
+        y ^ matrix_times(0x01, 0x02, 0x04, 0x06, substitute_by_tables(bytes, 0, z))
     } else {
-        y ^ matrix_times(0x01, 0x08, 0x02, 0x0a, substitute(bytes, 1, z))
+        y ^ matrix_times(0x01, 0x08, 0x02, 0x0a, substitute_by_tables(bytes, 1, z))
+    }
+}
+
+fn by_rules(f: usize, z: u32, y: u32) -> u32
+    requires { ⌜ f < 2 ⌝ }
+    ensures { λ r. ⌜ r ≡ y ⊕ mix f z ⌝ }
+{
+    if f == 0 {
+        y ^ matrix_times(0x01, 0x02, 0x04, 0x06, substitute_by_rules(0, z))
+    } else {
+        y ^ matrix_times(0x01, 0x08, 0x02, 0x0a, substitute_by_rules(1, z))
+    }
+}
+
+fn by_bytes0(bytes: &[[u8; 256]], z: u32, y: u32) -> u32
+    requires { ⌜ (length (now bytes) ≡ 2 → now bytes ≡ byteTables) ⌝ }
+    ensures { λ r. ⌜ r ≡ y ⊕ mix 0 z ⌝ }
+{
+    if bytes.len() == 2 {
+        by_tables(bytes, 0, z, y)
+    } else {
+        by_rules(0, z, y)
+    }
+}
+
+fn by_bytes1(bytes: &[[u8; 256]], z: u32, y: u32) -> u32
+    requires { ⌜ (length (now bytes) ≡ 2 → now bytes ≡ byteTables) ⌝ }
+    ensures { λ r. ⌜ r ≡ y ⊕ mix 1 z ⌝ }
+{
+    if bytes.len() == 2 {
+        by_tables(bytes, 1, z, y)
+    } else {
+        by_rules(1, z, y)
     }
 }
 
@@ -117,7 +134,7 @@ pub fn f0(words: &[[u32; 256]], bytes: &[[u8; 256]], k: u32, x: u32, y: u32) -> 
     if words.len() == 8 {
         by_words(words, 0, k ^ x, y)
     } else {
-        by_bytes(bytes, 0, k ^ x, y)
+        by_bytes0(bytes, k ^ x, y)
     }
 }
 
@@ -128,6 +145,6 @@ pub fn f1(words: &[[u32; 256]], bytes: &[[u8; 256]], k: u32, x: u32, y: u32) -> 
     if words.len() == 8 {
         by_words(words, 1, k ^ x, y)
     } else {
-        by_bytes(bytes, 1, k ^ x, y)
+        by_bytes1(bytes, k ^ x, y)
     }
 }

@@ -1,6 +1,3 @@
-pub mod Entry
 pub mod Form
-pub mod AndLaws
 pub mod Walks
 pub mod FormLaws
-pub mod Blocks

@@ -1,7 +1,4 @@
 // The form of a book, checks 5 to 10, in groups. Each group answers as a call does: its first check that fails, or a count.
-pub mod entry;
-pub mod record;
-
 ghost use mathlib.Core.Path.{_≡_};
 ghost use mathlib.Core.Bool.{_&&_};
 ghost use Prim.Native.Nat.{_+_, _*_, _≤_};
@@ -10,7 +7,8 @@ ghost use lib.ListN.{length, getD};
 ghost use Rattle.planbook_spec.specs.Book.{sheetCount};
 ghost use Rattle.form.specs.Form.{headAnswer, contentsAnswer, formAnswer};
 use answer::Answer;
-use entry::Entry;
+use entries::entry;
+use entries::entry::Entry;
 
 fn sized(book: &[u8]) -> bool
     ensures { λ r. ⌜ r ≡ (leb 4 (length (now (book .entry))) && leb (length (now (book .entry))) 65532) ⌝ }

@@ -5,6 +5,7 @@ ghost use Prim.Native.Nat.{_+_, _*_, _≤_};
 ghost use lib.ListN.{length, take, drop};
 ghost use Rattle.clefia_spec.specs.Words.{fromDigits, toDigits, bytesOf, wordsOf, xors};
 ghost use Rattle.rows.specs.Rows.{putFour};
+ghost use Rattle.rows.specs.Exchange.{Exchanged};
 
 // The word of four bytes.
 pub fn join(a: u8, b: u8, c: u8, d: u8) -> u32
@@ -60,6 +61,25 @@ pub fn xors4(a: [u32; 4], b: [u32; 4]) -> [u32; 4]
     ensures { λ r. ⌜ r ≡ xors a b ⌝ }
 {
     [a[0] ^ b[0], a[1] ^ b[1], a[2] ^ b[2], a[3] ^ b[3]]
+}
+
+// A block written and another read by turns: the four words s written into the 16 bytes of dst, and the four that stand at `from` of src read.
+// Each word that is written is followed by one that is read: the compiler makes one store of a word's four bytes only where no other store stands right
+// behind them.
+pub fn exchange(dst: &mut [u8], s: [u32; 4], src: &[u8], from: usize) -> [u32; 4]
+    requires { ⌜ length (now dst) ≡ 16 ⌝ }
+    requires { ⌜ from + 16 ≤ length (now src) ⌝ }
+    ensures { λ r. ⌜ Exchanged s (now (src .entry)) from r (now (dst .exit)) ⌝ }
+{
+    put_word(dst, 0, s[0]);
+    let a = word(src, from);
+    put_word(dst, 4, s[1]);
+    let b = word(src, from + 4);
+    put_word(dst, 8, s[2]);
+    let c = word(src, from + 8);
+    put_word(dst, 12, s[3]);
+    let d = word(src, from + 12);
+    [a, b, c, d]
 }
 
 // Every word of a row written into four times as many bytes.

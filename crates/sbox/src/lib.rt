@@ -1,6 +1,5 @@
-// S0 and S1: by byte tables, and worked out from the rules.
+// S0 and S1: by the lent byte tables, and worked out from the rules.
 pub mod rules;
-pub mod tables;
 
 ghost use mathlib.Core.Path.{_≡_};
 ghost use Prim.Native.Nat.{_<_};

@@ -1,4 +1,1 @@
-pub mod Swap
-pub mod Steps
 pub mod Keys
-pub mod Tests

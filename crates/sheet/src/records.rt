@@ -5,11 +5,10 @@ ghost use lib.ListN.{length};
 ghost use Rattle.clefia_spec.specs.Block.{decryptUnder};
 ghost use Rattle.planbook_spec.specs.Book.{count, sheetHolds, decryptBody};
 ghost use Rattle.ffunction.specs.Tables.{Lent};
-ghost use Rattle.sheet.specs.ChainLaws.{Decrypted};
-use super::chain::Chain;
-use super::four;
-use form::entry;
-use form::record;
+ghost use Rattle.chain.specs.ChainLaws.{Decrypted};
+use chain::Chain;
+use entries::entry;
+use entries::record;
 
 // Whether the records so far hold and the last `n` too, which stand from `from` on, one by one; `before` went before them.
 fn rest_holds(
@@ -68,9 +67,9 @@ pub fn decrypted_sheet_holds(
     let mut left = sheet.count;
     let mut at = 0;
     let mut holds = true;
-    let mut fours = four::fours(words, left);
+    let mut fours = four_records::fours(words, left);
     while 0 < fours {
-        let more = four::four_hold(holds, words, bytes, w, sheet, body, at, previous);
+        let more = four_records::four_hold(holds, words, bytes, w, sheet, body, at, previous);
         holds = more;
         let next = rows::load(body, at + 48);
         previous = next;

@@ -5,7 +5,7 @@ use borrow.Author.Needs.{needs}
 use Rattle.answer.specs.declared.Answer.the-variants.{Accepted}
 use Rattle.planbook_spec.specs.Outcome.{judged}
 use Rattle.form.specs.Form.{formAnswer}
-use Rattle.book.specs.Bodies.{markOf}
+use Rattle.book.specs.Directions.{markOf}
 use Rattle.book.specs.BookLaws.{form-stopped, form-given, by-records}
 use Rattle.book.proofs.check_book.Statement.{statement}
 use Rattle.book.proofs.check_book.Tie as tie

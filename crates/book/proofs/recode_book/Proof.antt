@@ -2,7 +2,7 @@
 use mathlib.Core.Path.{_≡_, sym, _∙_}
 use borrow.Author.Needs.{needs}
 use Rattle.answer.specs.declared.Answer.the-variants.{Accepted}
-use Rattle.book.specs.Bodies.{bookAnswer}
+use Rattle.book.specs.Directions.{bookAnswer}
 use Rattle.book.specs.BookLaws.{wrong-output, wrong-book, book-given, right-book}
 use Rattle.book.proofs.recode_book.Statement.{statement}
 use Rattle.book.proofs.recode_book.Tie as tie

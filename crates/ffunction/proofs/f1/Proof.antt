@@ -1,7 +1,5 @@
 -- `ffunction::f1` meets its contract.
-use Rattle.clefia_spec.specs.FFunction.{f1}
-use Rattle.sbox.specs.Boxes.{box}
-use Rattle.ffunction.specs.Tables.{matrix, mix}
+use Rattle.ffunction.specs.Tables.{mix-f1}
 use borrow.Author.Needs.{needs}
 use Rattle.ffunction.proofs.f1.Statement.{statement}
 use Rattle.ffunction.proofs.f1.Tie as tie
@@ -9,16 +7,14 @@ use Rattle.ffunction.proofs.f1.Tie as tie
 by-words-requires : tie.Need-by-words-requires
 by-words-requires c κs = (search needs, c .before .pre .words (c .if1 .taken))
 
-by-bytes-requires : tie.Need-by-bytes-requires
-by-bytes-requires c κs = search needs
+by-bytes1-requires : tie.Need-by-bytes1-requires
+by-bytes1-requires c κs = search needs
 
 returns : tie.Need-returns
-unfolding mix matrix box f1
-returns c = c .by-words .ensures
+returns c = rw (c .by-words .ensures, mix-f1)
 
 returns-2 : tie.Need-returns-2
-unfolding mix matrix box f1
-returns-2 c = c .by-bytes .ensures
+returns-2 c = rw (c .by-bytes1 .ensures, mix-f1)
 
 pub f1-spec : {M : Type 1} → statement M
-f1-spec = tie.close (tie.spec by-words-requires by-bytes-requires returns returns-2)
+f1-spec = tie.close (tie.spec by-words-requires by-bytes1-requires returns returns-2)

@@ -5,9 +5,11 @@ use mathlib.Core.List.{List}
 use borrow.Author.Needs.{needs}
 use lib.ListN.{take, drop}
 use Rattle.planbook_spec.specs.Book.{sheetCount}
-use Rattle.form.specs.declared.entry.Entry.the-variants.{Good, Broken}
-use Rattle.form.specs.Entry.{entryOf}
-use Rattle.form.specs.Walks.{part, part-length, Held, held, Walked, walk-start, walk-step, walk-broken, walk-wrong, walk-right}
+use Rattle.entries.specs.declared.entry.Entry.the-variants.{Good, Broken}
+use Rattle.entries.specs.Entry.{entryOf}
+use Rattle.entries.specs.EntryLaws.{Held, held}
+use Rattle.entries.specs.Parts.{part, part-length}
+use Rattle.form.specs.Walks.{Walked, walk-start, walk-step, walk-broken, walk-wrong, walk-right}
 use Rattle.form.proofs.check_contents.Statement.{statement}
 use Rattle.form.proofs.check_contents.Tie as tie
 

@@ -10,7 +10,7 @@ rotate-left-each-requires : tie.Need-rotate-left-each-requires
 rotate-left-each-requires c κs = search needs
 
 undo-by-two-requires : tie.Need-undo-by-two-requires
-undo-by-two-requires c κs = search needs
+undo-by-two-requires c κs = (c .before .before .before .before .pre .0 .words (c .before .before .if1 .taken), search needs)
 
 returns : tie.Need-returns
 unfolding inverseNetwork

@@ -7,7 +7,7 @@ use Rattle.network_rows.proofs.network4_each.Statement.{statement}
 use Rattle.network_rows.proofs.network4_each.Tie as tie
 
 rounds-by-two-requires : tie.Need-rounds-by-two-requires
-rounds-by-two-requires c κs = search needs
+rounds-by-two-requires c κs = (c .before .before .before .pre .0 .words (c .before .if1 .taken), search needs)
 
 rotate-right-each-requires : tie.Need-rotate-right-each-requires
 rotate-right-each-requires c κs = search needs

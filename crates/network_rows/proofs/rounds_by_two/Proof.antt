@@ -10,10 +10,10 @@ use Rattle.network_rows.proofs.rounds_by_two.Statement.{statement}
 use Rattle.network_rows.proofs.rounds_by_two.Tie as tie
 
 abbrev Inv-loop : tie.InvT-loop
-Inv-loop words bytes w n at t₀ left₀ i₀ t left i = (i + 4 * left ≤ length w) × (each (rounds 2 f0 f1 (2 * left) w i) t ≡ each (rounds 2 f0 f1 (2 * n) w at) t₀)
+Inv-loop words w n at t₀ left₀ i₀ t left i = (i + 4 * left ≤ length w) × (each (rounds 2 f0 f1 (2 * left) w i) t ≡ each (rounds 2 f0 f1 (2 * n) w at) t₀)
 
 abbrev μ-loop : tie.MeasureT-loop
-μ-loop words bytes w n at t₀ left₀ i₀ t left i = left
+μ-loop words w n at t₀ left₀ i₀ t left i = left
 
 loop-holds : tie.Need-loop-holds Inv-loop μ-loop
 loop-holds c = search needs

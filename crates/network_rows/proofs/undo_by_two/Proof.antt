@@ -9,10 +9,10 @@ use Rattle.network_rows.proofs.undo_by_two.Statement.{statement}
 use Rattle.network_rows.proofs.undo_by_two.Tie as tie
 
 abbrev Inv-loop : tie.InvT-loop
-Inv-loop words bytes w n at t₀ done₀ i₀ t done i = (done ≤ n) × (i + 4 * done ≡ at + 4 * n) × (t ≡ each (undoRounds 2 f0 f1 (2 * done) w i) t₀)
+Inv-loop words w n at t₀ done₀ i₀ t done i = (done ≤ n) × (i + 4 * done ≡ at + 4 * n) × (t ≡ each (undoRounds 2 f0 f1 (2 * done) w i) t₀)
 
 abbrev μ-loop : tie.MeasureT-loop
-μ-loop words bytes w n at t₀ done₀ i₀ t done i = n - done
+μ-loop words w n at t₀ done₀ i₀ t done i = n - done
 
 mul-i : tie.Need-mul-i Inv-loop μ-loop
 mul-i c = search needs

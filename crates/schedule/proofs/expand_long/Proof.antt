@@ -3,7 +3,7 @@ use mathlib.Core.Path.{_∙_}
 use borrow.Author.Needs.{needs}
 use Rattle.clefia_spec.specs.KeySchedule.{expandLong}
 use Rattle.rows.specs.Rows.{take-putFour}
-use Rattle.schedule.specs.Steps.{turns}
+use Rattle.round_keys.specs.Steps.{turns}
 use Rattle.schedule.proofs.expand_long.Statement.{statement}
 use Rattle.schedule.proofs.expand_long.Tie as tie
 

@@ -3,7 +3,7 @@ use mathlib.Core.Path.{_∙_}
 use borrow.Author.Needs.{needs}
 use Rattle.clefia_spec.specs.KeySchedule.{expandShort}
 use Rattle.rows.specs.Rows.{take-putFour}
-use Rattle.schedule.specs.Steps.{always}
+use Rattle.round_keys.specs.Steps.{always}
 use Rattle.schedule.proofs.expand_short.Statement.{statement}
 use Rattle.schedule.proofs.expand_short.Tie as tie
 

@@ -7,9 +7,9 @@ use borrow.Author.Needs.{needs}
 use borrow.Author.Tests.{not-true, not-false}
 use lib.ListN.{take, drop}
 use Rattle.planbook_spec.specs.Book.{count, sheetHolds}
-use Rattle.form.specs.Walks.{part, part-length}
-use Rattle.book.specs.Bodies.{entryAt, clearBody}
-use Rattle.book.specs.BodiesLaws.{Next, next, Tested, tested-start, tested-broken, tested-step, tested-end}
+use Rattle.entries.specs.Parts.{part, part-length}
+use Rattle.book.specs.Directions.{clearBody}
+use Rattle.bodies.specs.BodiesLaws.{entryAt, Next, next, Tested, tested-start, tested-broken, tested-step, tested-end}
 use Rattle.book.proofs.records.records_hold.Statement.{statement}
 use Rattle.book.proofs.records.records_hold.Tie as tie
 

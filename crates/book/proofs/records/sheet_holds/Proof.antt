@@ -1,6 +1,6 @@
 -- `book::records::sheet_holds` meets its contract.
 use borrow.Author.Needs.{needs}
-use Rattle.book.specs.Bodies.{Ready}
+use Rattle.book.specs.Directions.{Ready}
 use Rattle.book.proofs.records.sheet_holds.Statement.{statement}
 use Rattle.book.proofs.records.sheet_holds.Tie as tie
 

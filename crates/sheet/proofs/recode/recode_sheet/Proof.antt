@@ -7,8 +7,8 @@ use lib.ListN.{length, drop}
 use Rattle.clefia_spec.specs.Words.{wordsOf, Below}
 use Rattle.clefia_spec.specs.DigitLaws.{below-all}
 use Rattle.planbook_spec.specs.Book.{count}
-use Rattle.form.specs.Walks.{part-length}
-use Rattle.sheet.specs.ChainLaws.{Chained, chain-turn, chain-end, ahead-fits}
+use Rattle.entries.specs.Parts.{part-length}
+use Rattle.chain.specs.ChainLaws.{Chained, chain-turn, chain-end, ahead-fits}
 use Rattle.sheet.proofs.recode.recode_sheet.Statement.{statement}
 use Rattle.sheet.proofs.recode.recode_sheet.Tie as tie
 

@@ -4,8 +4,8 @@ use mathlib.Core.Path.{_≡_}
 use mathlib.Core.Bool.{true}
 use borrow.Author.Needs.{needs}
 use Rattle.clefia_spec.specs.DigitLaws.{below-all}
-use Rattle.form.specs.Entry.{sheetOf}
-use Rattle.sheet.specs.ChainLaws.{Decrypted, decrypted-start}
+use Rattle.entries.specs.Entry.{sheetOf}
+use Rattle.chain.specs.ChainLaws.{Decrypted, decrypted-start}
 use Rattle.sheet.proofs.records.decrypted_sheet_holds.Statement.{statement}
 use Rattle.sheet.proofs.records.decrypted_sheet_holds.Tie as tie
 

@@ -10,9 +10,9 @@ use Rattle.clefia_spec.specs.Words.{bytesOf, wordsOf, xors, Below}
 use Rattle.clefia_spec.specs.DigitLaws.{below-all}
 use Rattle.clefia_spec.specs.Block.{decryptWords}
 use Rattle.planbook_spec.specs.Book.{recordHolds}
-use Rattle.form.specs.Entry.{sheetOf}
-use Rattle.sheet.specs.declared.chain.Step.{Step}
-use Rattle.sheet.specs.ChainLaws.{Decrypted, and-true, and-false, decrypted-broken, decrypted-step, decrypted-end}
+use Rattle.entries.specs.Entry.{sheetOf}
+use Rattle.chain.specs.declared.Step.{Step}
+use Rattle.chain.specs.ChainLaws.{Decrypted, and-true, and-false, decrypted-broken, decrypted-step, decrypted-end}
 use Rattle.sheet.proofs.records.rest_holds.Statement.{statement}
 use Rattle.sheet.proofs.records.rest_holds.Tie as tie
 

@@ -1,0 +1,87 @@
+-- `bodies::front::copy_front` meets its contract: what stands before `i` has been copied.
+use Prim.Native.Nat.{ℕ, _+_, _-_, _*_, _≤_, _<_}
+use mathlib.Core.Path.{_≡_, refl, sym, ap, _∙_}
+use mathlib.Core.List.{List, [], _∷_, _++_}
+use native.Mathlib.Omega.{arith}
+use native.Mathlib.Numerals.{add-one}
+use borrow.Author.Needs.{needs}
+use lib.ListN.{length, take, getD, set, length-set}
+use lib.Seq.{take-suc, take-suc-set, take-set-lt}
+use Rattle.planbook_spec.specs.Book.{sheetCount}
+use Rattle.bodies.proofs.front.copy_front.Statement.{statement}
+use Rattle.bodies.proofs.front.copy_front.Tie as tie
+
+one-more : (i : ℕ) (out book : List ℕ) → i < length out → i < length book → take i out ≡ take i book
+    → take (i + 1) (set out i (getD book i 0)) ≡ take (i + 1) book
+one-more i out book h k e =
+    rw add-one (take-suc-set out i (getD book i 0) h ∙ ap (λ (l : List ℕ). l ++ (getD book i 0 ∷ [])) e ∙ sym (take-suc book i 0 k))
+
+abbrev Inv-loop : tie.InvT-loop
+Inv-loop mark book out₀ end i₀ out i = (end ≡ 4 + 24 * sheetCount book) × (i ≤ end) × (length out ≡ length out₀) × (take i out ≡ take i book)
+
+abbrev μ-loop : tie.MeasureT-loop
+μ-loop mark book out₀ end i₀ out i = end - i
+
+half-requires : tie.Need-half-requires Inv-loop μ-loop
+half-requires c κs = search needs
+
+mul-end : tie.Need-mul-end Inv-loop μ-loop
+mul-end c = search needs
+
+add-end : tie.Need-add-end Inv-loop μ-loop
+add-end c = search needs
+
+loop-holds : tie.Need-loop-holds Inv-loop μ-loop
+loop-holds c = (ap (λ (n : ℕ). 4 + 24 * n) (c .half .ensures), search needs, refl, refl)
+
+shared-slice-read-out : tie.Need-shared-slice-read-out Inv-loop μ-loop
+shared-slice-read-out c = search needs
+
+slice-write-out : tie.Need-slice-write-out Inv-loop μ-loop
+slice-write-out c = search needs
+
+add-i : tie.Need-add-i Inv-loop μ-loop
+add-i c = search needs
+
+loop-less : tie.Need-loop-less Inv-loop μ-loop
+loop-less c = search needs
+
+loop-again : tie.Need-loop-again Inv-loop μ-loop
+loop-again c =
+    let a : tie.At-loop Inv-loop μ-loop = c .before .before in (
+      a .loop .inv .0,
+      search needs,
+      simp length-set (a .loop .inv .2),
+      one-more (a .loop .i) (a .loop .out) (a .before .before .before .before .args .book .now) (search needs) (search needs) (a .loop .inv .3),
+    )
+
+slice-write-out-2 : tie.Need-slice-write-out-2 Inv-loop μ-loop
+slice-write-out-2 c = search needs
+
+same-length : tie.Need-same-length Inv-loop μ-loop
+same-length c = search needs
+
+returns : tie.Need-returns Inv-loop μ-loop
+returns c =
+    let a : tie.At-loop Inv-loop μ-loop = c .before in
+    let e : a .loop .i ≡ 4 + 24 * sheetCount (a .before .before .before .before .args .book .now) = search needs in
+    take-set-lt (4 + 24 * sheetCount (a .before .before .before .before .args .book .now)) (a .loop .out) 0 (a .before .before .before .before .args .mark) (omega arith) ∙ ap (λ (l : List ℕ). set l 0 (a .before .before .before .before .args .mark)) (rw e at (a .loop .inv .3))
+
+pub copy-front-spec : {M : Type 1} → statement M
+copy-front-spec =
+    tie.close
+    (tie.spec
+    Inv-loop
+    μ-loop
+    half-requires
+    mul-end
+    add-end
+    loop-holds
+    shared-slice-read-out
+    slice-write-out
+    add-i
+    loop-less
+    loop-again
+    slice-write-out-2
+    same-length
+    returns)

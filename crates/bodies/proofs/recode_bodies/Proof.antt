@@ -1,0 +1,152 @@
+-- `bodies::recode_bodies` meets its contract: `left` sheets are to come, the next entry at `from`, its body at `at`.
+use Prim.Native.Nat.{ℕ, _+_, _*_, _≤_}
+use mathlib.Core.Path.{_≡_, refl, sym, ap, _∙_}
+use mathlib.Core.List.{List}
+use native.Mathlib.Omega.{arith}
+use borrow.Author.Needs.{needs}
+use lib.ListN.{length, take, drop}
+use Rattle.planbook_spec.specs.Book.{count}
+use Rattle.entries.specs.Parts.{part, part-length}
+use Rattle.chain.specs.Recode.{recodedBody}
+use Rattle.bodies.specs.BodiesLaws.{entryAt}
+use Rattle.bodies.specs.BodiesLaws.{Next, next, Filled, filled-start, filled-step, filled-end}
+use Rattle.bodies.proofs.recode_bodies.Statement.{statement}
+use Rattle.bodies.proofs.recode_bodies.Tie as tie
+
+abbrev Inv-loop : tie.InvT-loop
+Inv-loop decrypting words bytes w book out₀ left₀ from₀ at₀ out left from at = Filled (recodedBody decrypting w) book out₀ out from at left
+
+abbrev μ-loop : tie.MeasureT-loop
+μ-loop decrypting words bytes w book out₀ left₀ from₀ at₀ out left from at = left
+
+abbrev start : tie.In-loop Inv-loop μ-loop → tie.Start Inv-loop μ-loop
+start i = i .before .before .before .before .before .before
+
+following : (i : tie.In-loop Inv-loop μ-loop) → Next (start i .args .book .now) (i .before .loop .from) (i .before .loop .at) (i .before .loop .left)
+following i = next (i .before .loop .inv .placed) (i .loop-test .taken)
+
+-- what the part of the output holds that was lent for the body at `at`
+recoded : (c : tie.After-recode-sheet Inv-loop μ-loop) →
+    let i : tie.In-loop Inv-loop μ-loop = c .before .before .before .before .before in
+    let s : tie.Start Inv-loop μ-loop = start i in
+    let e : List ℕ = entryAt (s .args .book .now) (i .before .loop .from) in
+    c .recode-sheet .last .1 .1 .1 .1 .1 .1 .0 ≡ recodedBody (s .args .decrypting) (s .args .w .now) e (take (16 * count e) (drop (i .before .loop .at) (s .args .book .now)))
+recoded c =
+    let b : tie.After-body-end Inv-loop μ-loop = c .before .before .before .before in
+    let i : tie.In-loop Inv-loop μ-loop = b .before in
+    let s : tie.Start Inv-loop μ-loop = start i in
+    rw (part 24 (i .before .loop .from) (s .args .book .now) refl, part _ (i .before .loop .at) (s .args .book .now) (b .body-end .ensures)) at (c .recode-sheet .ensures)
+
+half-requires : tie.Need-half-requires Inv-loop μ-loop
+half-requires c κs = search needs
+
+mul-at : tie.Need-mul-at Inv-loop μ-loop
+mul-at c = search needs
+
+add-at : tie.Need-add-at Inv-loop μ-loop
+add-at c = search needs
+
+loop-holds : tie.Need-loop-holds Inv-loop μ-loop
+loop-holds c = rw (c .half .ensures) (filled-start _ _ (c .before .before .before .before .pre .1 .1) (c .before .before .before .before .pre .1 .2))
+
+add-next : tie.Need-add-next Inv-loop μ-loop
+add-next c = search needs
+
+body-end-requires : tie.Need-body-end-requires Inv-loop μ-loop
+body-end-requires c κs = (following c .entry, following c .body)
+
+sub-recode-sheet : tie.Need-sub-recode-sheet Inv-loop μ-loop
+sub-recode-sheet c = search needs
+
+part-recode-sheet-start : tie.Need-part-recode-sheet-start Inv-loop μ-loop
+part-recode-sheet-start c = search needs
+
+part-recode-sheet-end : tie.Need-part-recode-sheet-end Inv-loop μ-loop
+part-recode-sheet-end c = search needs
+
+sub-recode-sheet-2 : tie.Need-sub-recode-sheet-2 Inv-loop μ-loop
+sub-recode-sheet-2 c = search needs
+
+part-recode-sheet-start-2 : tie.Need-part-recode-sheet-start-2 Inv-loop μ-loop
+part-recode-sheet-start-2 c = search needs
+
+part-recode-sheet-end-2 : tie.Need-part-recode-sheet-end-2 Inv-loop μ-loop
+part-recode-sheet-end-2 c = omega (arith, c .before .body-end .ensures, following (c .before .before) .body)
+
+sub-recode-sheet-3 : tie.Need-sub-recode-sheet-3 Inv-loop μ-loop
+sub-recode-sheet-3 c = search needs
+
+part-recode-sheet-start-3 : tie.Need-part-recode-sheet-start-3 Inv-loop μ-loop
+part-recode-sheet-start-3 c = search needs
+
+part-recode-sheet-end-3 : tie.Need-part-recode-sheet-end-3 Inv-loop μ-loop
+part-recode-sheet-end-3 c =
+    let i : tie.In-loop Inv-loop μ-loop = c .before .before .before in
+    omega (arith, c .before .before .body-end .ensures, following i .body, i .before .loop .inv .long)
+
+recode-sheet-requires : tie.Need-recode-sheet-requires Inv-loop μ-loop
+recode-sheet-requires c κs =
+    let b : tie.After-body-end Inv-loop μ-loop = c .before .before .before in
+    let i : tie.In-loop Inv-loop μ-loop = b .before in
+    let s : tie.Start Inv-loop μ-loop = start i in
+    let f : i .before .loop .at + 16 * count (entryAt (s .args .book .now) (i .before .loop .from)) ≤ length (i .before .loop .out) = rw (i .before .loop .inv .long) (following i .body) in (
+      s .pre .0,
+      (
+        (s .pre .1 .0, part-length 24 (i .before .loop .from) (s .args .book .now) refl (following i .entry)),
+        rw (part 24 (i .before .loop .from) (s .args .book .now) refl) (
+          part-length _ (i .before .loop .at) (s .args .book .now) (b .body-end .ensures) (following i .body),
+          part-length _ (i .before .loop .at) (i .before .loop .out) (b .body-end .ensures) f,
+        ),
+      ),
+    )
+
+sub-left : tie.Need-sub-left Inv-loop μ-loop
+sub-left c = search needs
+
+loop-less : tie.Need-loop-less Inv-loop μ-loop
+loop-less c = search needs
+
+loop-again : tie.Need-loop-again Inv-loop μ-loop
+loop-again c =
+    let r : tie.After-recode-sheet Inv-loop μ-loop = c .before .before in
+    let b : tie.After-body-end Inv-loop μ-loop = r .before .before .before .before in
+    let i : tie.In-loop Inv-loop μ-loop = b .before in
+    let s : tie.Start Inv-loop μ-loop = start i in
+    let f : i .before .loop .at + 16 * count (entryAt (s .args .book .now) (i .before .loop .from)) ≤ length (i .before .loop .out) = rw (i .before .loop .inv .long) (following i .body) in
+    rw (recoded r, b .body-end .ensures)
+    (filled-step _ (i .before .loop .inv) (i .loop-test .taken)
+    (ap length (sym (recoded r)) ∙ r .recode-sheet .kept .1 .1 .1 .1 .1 .1 .0 ∙ part-length _ (i .before .loop .at) (i .before .loop .out) (b .body-end .ensures) f))
+
+same-length : tie.Need-same-length Inv-loop μ-loop
+same-length c = c .before .loop .inv .long ∙ sym (c .before .before .before .before .before .before .pre .1 .2)
+
+returns : tie.Need-returns Inv-loop μ-loop
+returns c = filled-end _ (c .before .loop .inv) (search needs)
+
+pub recode-bodies-spec : {M : Type 1} → statement M
+recode-bodies-spec =
+    tie.close
+    (tie.spec
+    Inv-loop
+    μ-loop
+    half-requires
+    mul-at
+    add-at
+    loop-holds
+    add-next
+    body-end-requires
+    sub-recode-sheet
+    part-recode-sheet-start
+    part-recode-sheet-end
+    sub-recode-sheet-2
+    part-recode-sheet-start-2
+    part-recode-sheet-end-2
+    sub-recode-sheet-3
+    part-recode-sheet-start-3
+    part-recode-sheet-end-3
+    recode-sheet-requires
+    sub-left
+    loop-less
+    loop-again
+    same-length
+    returns)

@@ -1,0 +1,12 @@
+-- `byte_tables::table0` meets its contract: the rule is computed at each byte.
+use Rattle.gf256.specs.Values.{values}
+use Rattle.sbox.specs.Tests.{testedBox, byteTable-tested}
+use Rattle.byte_tables.proofs.table0.Statement.{statement}
+use Rattle.byte_tables.proofs.table0.Tie as tie
+
+returns : tie.Need-returns
+unfolding values testedBox
+returns c = byteTable-tested 0
+
+pub table0-spec : {M : Type 1} → statement M
+table0-spec = tie.close (tie.spec returns)

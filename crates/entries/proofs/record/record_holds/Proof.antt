@@ -1,0 +1,42 @@
+-- `entries::record::record_holds` meets its contract.
+use mir.Syntax.{w32}
+use Prim.Native.Nat.{ℕ, _^_, _<_}
+use mathlib.Core.Path.{ap, _∙_}
+use lib.ListN.{getD}
+use Rattle.entries.specs.declared.entry.Sheet.{Sheet}
+use Rattle.entries.specs.Blocks.{record-row}
+use borrow.Author.Needs.{needs, elem-fits}
+use Rattle.entries.proofs.record.record_holds.Statement.{statement}
+use Rattle.entries.proofs.record.record_holds.Tie as tie
+
+array-read-replicate : tie.Need-array-read-replicate
+array-read-replicate c = search needs
+
+array-read-all : tie.Need-array-read-all
+array-read-all c = search needs
+
+array-read-all-2 : tie.Need-array-read-all-2
+array-read-all-2 c = search needs
+
+array-read-all-3 : tie.Need-array-read-all-3
+array-read-all-3 c = search needs
+
+all-requires : tie.Need-all-requires
+all-requires c κs = search needs
+
+returns : tie.Need-returns
+returns c =
+    let a : tie.Start = c .before .before in
+    let fits : (i : ℕ) → getD (a .args .t2) i 0 < 2 ^ 32 = λ i. elem-fits w32 w32 (a .args .t2) _ i (a .good .1 .0 .1 .1) tt .fits in
+    λ e h. c .all .ensures ∙ record-row e (a .args .t2) (search needs) (fits 0) (fits 1) (fits 2) (ap (λ (s : Sheet). s .trial) h)
+
+pub record-holds-spec : {M : Type 1} → statement M
+record-holds-spec =
+    tie.close
+    (tie.spec
+    array-read-replicate
+    array-read-all
+    array-read-all-2
+    array-read-all-3
+    all-requires
+    returns)

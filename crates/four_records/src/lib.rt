@@ -1,0 +1,186 @@
+// Four records of an encrypted body at once. Each is decrypted by itself and added to the encrypted one before it, which is read from the body again.
+ghost use mathlib.Core.Path.{_≡_};
+ghost use mathlib.Core.Bool.{true};
+ghost use mathlib.Core.List.{List};
+ghost use Prim.Native.Nat.{ℕ, _+_, _-_, _*_, _≤_};
+ghost use lib.ListN.{length, drop};
+ghost use Rattle.clefia_spec.specs.Words.{bytesOf, wordsOf, xors};
+ghost use Rattle.planbook_spec.specs.Book.{count, recordHolds};
+ghost use Rattle.ffunction.specs.Tables.{Lent};
+ghost use Rattle.entries.specs.Entry.{sheetOf};
+ghost use Rattle.chain.specs.ChainLaws.{Chained, Decrypted};
+ghost use Rattle.four_records.specs.FourLaws.{decryptedFour, Written};
+use chain::Chain;
+use entries::entry;
+use entries::entry::Sheet;
+use entries::record;
+use network_rows::FourRows;
+
+// The four blocks that stand at `at` of a body, decrypted and not yet added to those before them.
+fn decrypt_four(
+    words: &[[u32; 256]],
+    bytes: &[[u8; 256]],
+    w: &[u32],
+    body: &[u8],
+    at: usize,
+) -> FourRows
+    requires { ⌜ Lent (now words) (now bytes) ⌝ }
+    requires { ⌜ (4 ≤ length (now w)) × (at + 64 ≤ length (now body)) ⌝ }
+    ensures { λ r. ⌜ r ≡ decryptedFour (now (w .entry)) (now (body .entry)) at ⌝ }
+{
+    let second = at + 16;
+    let third = second + 16;
+    let fourth = third + 16;
+    let read = FourRows {
+        a: rows::load(body, at),
+        b: rows::load(body, second),
+        c: rows::load(body, third),
+        d: rows::load(body, fourth),
+    };
+    block::decrypt_each(words, bytes, w, read)
+}
+
+// Whether a decrypted block t, added to the encrypted one before it, is a record that holds.
+fn clear_holds(sheet: Sheet, previous: [u32; 4], t: [u32; 4]) -> bool
+    ensures { λ r. ⌜ ((e : List ℕ) → sheet ≡ sheetOf e → r ≡ recordHolds e (bytesOf (xors previous t))) ⌝ }
+{
+    record::record_holds(sheet, rows::xors4(previous, t))
+}
+
+// How often four of n records go at once: by word tables as long as there are four; other tables leave nothing to wait for, and there never.
+pub fn fours(words: &[[u32; 256]], n: usize) -> usize
+    ensures { λ r. ⌜ 4 * r ≤ n ⌝ }
+{
+    if words.len() == 8 { n / 4 } else { 0 }
+}
+
+// Whether the records so far hold and the four that stand at `at` too; `previous` went before them.
+pub fn four_hold(
+    held: bool,
+    words: &[[u32; 256]],
+    bytes: &[[u8; 256]],
+    w: &[u32],
+    sheet: Sheet,
+    body: &[u8],
+    at: usize,
+    previous: [u32; 4],
+) -> bool
+    requires { ⌜ Lent (now words) (now bytes) ⌝ }
+    requires { ⌜ (4 ≤ length (now w)) × (at + 64 ≤ length (now body)) ⌝ }
+    ensures { λ r. ⌜ ((e : List ℕ) (left : ℕ) → sheet ≡ sheetOf e → length (now (body .entry)) ≡ 16 * count e → Decrypted held (now (w .entry)) e (now (body .entry)) at left previous → 4 ≤ left → Decrypted r (now (w .entry)) e (now (body .entry)) (at + 64) (left - 4) (wordsOf 4 (drop (at + 48) (now (body .entry))))) ⌝ }
+{
+    let t = decrypt_four(words, bytes, w, body, at);
+    let a = t.a;
+    let b = t.b;
+    let c = t.c;
+    let d = t.d;
+    let second = at + 16;
+    let third = second + 16;
+    let p = clear_holds(sheet, previous, a);
+    let q = clear_holds(sheet, rows::load(body, at), b);
+    let r = clear_holds(sheet, rows::load(body, second), c);
+    let s = clear_holds(sheet, rows::load(body, third), d);
+    entry::all(held, p, q, r, s)
+}
+
+// A decrypted block t added to the encrypted one before it, and written at `at`; the encrypted one that stands there is read.
+fn write_clear(body: &[u8], out: &mut [u8], at: usize, previous: [u32; 4], t: [u32; 4]) -> [u32; 4]
+    requires { ⌜ (at + 16 ≤ length (now body)) × (at + 16 ≤ length (now out)) ⌝ }
+    ensures { λ r. ⌜ Written (now (body .entry)) (now (out .entry)) at previous t r (now (out .exit)) ⌝ }
+{
+    let end = at + 16;
+    rows::exchange(&mut out[at..end], rows::xors4(previous, t), body, at)
+}
+
+// The four records that stand at `at`, written; `previous` went before them, and what goes before the next is handed back.
+fn write_four(
+    words: &[[u32; 256]],
+    bytes: &[[u8; 256]],
+    w: &[u32],
+    body: &[u8],
+    out: &mut [u8],
+    at: usize,
+    previous: [u32; 4],
+) -> [u32; 4]
+    requires { ⌜ Lent (now words) (now bytes) ⌝ }
+    requires { ⌜ (4 ≤ length (now w)) × (at + 64 ≤ length (now body)) × (at + 64 ≤ length (now out)) ⌝ }
+    ensures { λ r. ⌜ ((e : List ℕ) (left : ℕ) → length (now (body .entry)) ≡ 16 * count e → Chained true (now (w .entry)) e (now (body .entry)) (now (out .entry)) at left previous → 4 ≤ left → Chained true (now (w .entry)) e (now (body .entry)) (now (out .exit)) (at + 64) (left - 4) r) ⌝ }
+{
+    let t = decrypt_four(words, bytes, w, body, at);
+    let a = t.a;
+    let b = t.b;
+    let c = t.c;
+    let d = t.d;
+    let second = at + 16;
+    let third = second + 16;
+    let fourth = third + 16;
+    let p = write_clear(body, out, at, previous, a);
+    let q = write_clear(body, out, second, p, b);
+    let r = write_clear(body, out, third, q, c);
+    write_clear(body, out, fourth, r, d)
+}
+
+// Where the records of a body begin that are still to be recoded, how many they are, and the block before them.
+pub struct Place {
+    pub at: usize,
+    pub left: usize,
+    pub previous: [u32; 4],
+}
+
+// The records of an encrypted body, four at a time as long as there are four.
+fn write_fours(
+    words: &[[u32; 256]],
+    bytes: &[[u8; 256]],
+    w: &[u32],
+    entry: &[u8],
+    body: &[u8],
+    out: &mut [u8],
+) -> Place
+    requires { ⌜ Lent (now words) (now bytes) ⌝ }
+    requires { ⌜ (4 ≤ length (now w)) × (length (now entry) ≡ 24) ⌝ }
+    requires { ⌜ (length (now body) ≡ 16 * count (now entry)) × (length (now out) ≡ 16 * count (now entry)) ⌝ }
+    ensures { λ r. ⌜ Chained true (now (w .entry)) (now (entry .entry)) (now (body .entry)) (now (out .exit)) (r .at) (r .left) (r .previous) ⌝ }
+{
+    let mut left = entry::half(entry, 4);
+    let chain = Chain::new(entry);
+    let mut previous = chain.previous;
+    let mut at = 0;
+    while 4 <= left {
+        let next = write_four(words, bytes, w, body, out, at, previous);
+        previous = next;
+        left -= 4;
+        at += 64;
+    }
+    Place { at, left, previous }
+}
+
+// What of a body is recoded before the rest goes record by record: in decrypting by word tables, all fours; in encrypting, where each record waits
+// for the one before it, and by other tables, which leave nothing to wait for, nothing.
+pub fn begin(
+    decrypting: bool,
+    words: &[[u32; 256]],
+    bytes: &[[u8; 256]],
+    w: &[u32],
+    entry: &[u8],
+    body: &[u8],
+    out: &mut [u8],
+) -> Place
+    requires { ⌜ Lent (now words) (now bytes) ⌝ }
+    requires { ⌜ (4 ≤ length (now w)) × (length (now entry) ≡ 24) ⌝ }
+    requires { ⌜ (length (now body) ≡ 16 * count (now entry)) × (length (now out) ≡ 16 * count (now entry)) ⌝ }
+    ensures { λ r. ⌜ Chained decrypting (now (w .entry)) (now (entry .entry)) (now (body .entry)) (now (out .exit)) (r .at) (r .left) (r .previous) ⌝ }
+{
+    if decrypting {
+        if words.len() == 8 {
+            return write_fours(words, bytes, w, entry, body, out);
+        }
+    }
+    let left = entry::half(entry, 4);
+    let chain = Chain::new(entry);
+    let previous = chain.previous;
+    Place {
+        at: 0,
+        left,
+        previous,
+    }
+}
