@@ -41,9 +41,9 @@ fn feistel4_f1_first(
     requires { ⌜ Lent (now words) (now bytes) ⌝ }
     ensures { λ r. ⌜ ((w : List ℕ) (i : ℕ) → a ≡ getD w i 0 → b ≡ getD w (i + 1) 0 → r ≡ feistel f0 f1 w i s) ⌝ }
 {
-    let z = ffunction::f1(words, bytes, b, s[2], s[3]);
-    let y = ffunction::f0(words, bytes, a, s[0], s[1]);
-    [s[0], y, s[2], z]
+    let v = ffunction::f1(words, bytes, b, s[2], s[3]);
+    let u = ffunction::f0(words, bytes, a, s[0], s[1]);
+    [s[0], u, s[2], v]
 }
 
 // n rounds with the round keys from `at` on.
