@@ -4,32 +4,15 @@ ghost use Prim.Native.Nat.{_-_, _/_, _≤_};
 ghost use lib.ListN.{length};
 ghost use Rattle.clefia_spec.specs.Block.{whiten, encryptWords, decryptWords, encryptUnder, decryptUnder};
 ghost use Rattle.ffunction.specs.Tables.{Lent};
-ghost use Rattle.network_rows.specs.Four.{each};
-use network_rows::FourRows;
 
-fn whiten(a: u32, b: u32, s: [u32; 4]) -> [u32; 4]
+pub fn whiten(a: u32, b: u32, s: [u32; 4]) -> [u32; 4]
     ensures { λ r. ⌜ r ≡ whiten a b s ⌝ }
 {
     [s[0], a ^ s[1], s[2], b ^ s[3]]
 }
 
-fn whiten_each(a: u32, b: u32, s: FourRows) -> FourRows
-    ensures { λ r. ⌜ r ≡ each (whiten a b) s ⌝ }
-{
-    let p = s.a;
-    let q = s.b;
-    let t = s.c;
-    let u = s.d;
-    FourRows {
-        a: whiten(a, b, p),
-        b: whiten(a, b, q),
-        c: whiten(a, b, t),
-        d: whiten(a, b, u),
-    }
-}
-
 // 18, 22 or 26 rounds, by the number of words.
-fn round_count(w: &[u32]) -> usize
+pub fn round_count(w: &[u32]) -> usize
     requires { ⌜ 4 ≤ length (now w) ⌝ }
     ensures { λ r. ⌜ r ≡ (length (now (w .entry)) - 4) / 2 ⌝ }
 {
@@ -54,27 +37,6 @@ pub fn decrypt_words(words: &[[u32; 256]], bytes: &[[u8; 256]], w: &[u32], s: [u
     let n = round_count(w);
     let t = network::inverse_network4(words, bytes, w, n, 4, whiten(w[2], w[3], s));
     whiten(w[0], w[1], t)
-}
-
-// Four blocks at once.
-pub fn encrypt_each(words: &[[u32; 256]], bytes: &[[u8; 256]], w: &[u32], s: FourRows) -> FourRows
-    requires { ⌜ Lent (now words) (now bytes) ⌝ }
-    requires { ⌜ 4 ≤ length (now w) ⌝ }
-    ensures { λ r. ⌜ r ≡ each (encryptWords (now (w .entry))) s ⌝ }
-{
-    let n = round_count(w);
-    let t = network_rows::network4_each(words, bytes, w, n, 4, whiten_each(w[0], w[1], s));
-    whiten_each(w[2], w[3], t)
-}
-
-pub fn decrypt_each(words: &[[u32; 256]], bytes: &[[u8; 256]], w: &[u32], s: FourRows) -> FourRows
-    requires { ⌜ Lent (now words) (now bytes) ⌝ }
-    requires { ⌜ 4 ≤ length (now w) ⌝ }
-    ensures { λ r. ⌜ r ≡ each (decryptWords (now (w .entry))) s ⌝ }
-{
-    let n = round_count(w);
-    let t = network_rows::inverse_network4_each(words, bytes, w, n, 4, whiten_each(w[2], w[3], s));
-    whiten_each(w[0], w[1], t)
 }
 
 pub fn encrypt_block(

@@ -1,68 +1,16 @@
--- Laws of the walk through the bodies: `left` entries are to come, the next at `from`, and its body at `at`.
+-- The walk through the bodies: what is written of the output so far, and what is to come.
 use Prim.Native.Nat.{ℕ, _+_, _-_, _*_, _≤_, _<_}
-use mathlib.Core.Path.{_≡_, refl, sym, ap, _∙_}
-use mathlib.Core.Bool.{true, false}
+use mathlib.Core.Path.{_≡_, sym, ap, _∙_}
 use mathlib.Core.List.{List, _++_}
 use native.Mathlib.Omega.{arith}
 use borrow.Rule.Slice.PartMut.{putMid}
 use lib.ListN.{length, take, drop}
-use Rattle.planbook_spec.specs.Book.{count, pieces, sheetHolds, sheetCount, contents, bodies, recordCount, sheetsHold, eachBody}
-use Rattle.planbook_spec.specs.WalkLaws.{count-next, body-next, sheets-next, bodies-at}
-use Rattle.planbook_spec.specs.BookLaws.{Formed}
+use Rattle.planbook_spec.specs.Book.{count, pieces, sheetCount, contents, bodies, recordCount, eachBody}
+use Rattle.planbook_laws.specs.WalkLaws.{body-next, bodies-at}
+use Rattle.planbook_laws.specs.BookLaws.{Formed}
 use Rattle.chain.specs.ChainLaws.{fill-part, length-part}
 use Rattle.rows.specs.Rows.{fill-end}
-
--- The entry that stands at an offset of a book.
-abbrev pub entryAt : List ℕ → ℕ → List ℕ
-entryAt book from = take 24 (drop from book)
-
-pub record Placed (book : List ℕ) (from at left : ℕ) : Type 0 where
-  pub place : from + 24 * left ≡ 4 + 24 * sheetCount book
-  pub room : 4 + 24 * sheetCount book ≤ length book
-  pub rest : at + 16 * recordCount (pieces 24 left (drop from book)) ≡ length book
-
-pub placed-start : {book : List ℕ} → Formed book → Placed book 4 (4 + 24 * sheetCount book) (sheetCount book)
-placed-start f = record { place = refl; room = omega (arith, f .size); rest = sym (f .size) }
-
--- Where the next entry and its body end, and what follows them.
-pub record Next (book : List ℕ) (from at left : ℕ) : Type 0 where
-  pub entry : from + 24 ≤ length book
-  pub body : at + 16 * count (entryAt book from) ≤ length book
-  pub placed : Placed book (from + 24) (at + 16 * count (entryAt book from)) (left - 1)
-
-pub next : {book : List ℕ} {from at left : ℕ} → Placed book from at left → 0 < left → Next book from at left
-next {book} {from} {at} {left} p h =
-    let r : at + 16 * (count (entryAt book from) + recordCount (pieces 24 (left - 1) (drop (from + 24) book))) ≡ length book = rw (count-next left from book h) at (p .rest) in
-    record {
-      entry = omega (arith, p .place, p .room);
-      body = omega arith;
-      placed = record { place = omega (arith, p .place); room = p .room; rest = omega arith };
-    }
-
--- ---- check 11 of the sheets that are to come is check 11 of all
-
-pub record Tested (f : List ℕ → List ℕ → List ℕ) (book : List ℕ) (from at left : ℕ) : Type 0 where
-  pub placed : Placed book from at left
-  pub tested : sheetsHold f (pieces 24 left (drop from book)) (drop at book) ≡ sheetsHold f (contents book) (bodies book)
-
-pub tested-start : (f : List ℕ → List ℕ → List ℕ) {book : List ℕ} → Formed book → Tested f book 4 (4 + 24 * sheetCount book) (sheetCount book)
-tested-start f {book} g = record { placed = placed-start g; tested = ap (sheetsHold f (contents book)) (sym (bodies-at book)) }
-
-module _ (f : List ℕ → List ℕ → List ℕ) {book : List ℕ} {from at left : ℕ} (t : Tested f book from at left) where
-  abbrev clear : List ℕ
-  clear = f (entryAt book from) (take (16 * count (entryAt book from)) (drop at book))
-
-  pub tested-broken : 0 < left → sheetHolds (entryAt book from) clear ≡ false → false ≡ sheetsHold f (contents book) (bodies book)
-  tested-broken h e = sym (sheets-next f left from at book h e) ∙ t .tested
-
-  pub tested-step : 0 < left → sheetHolds (entryAt book from) clear ≡ true → Tested f book (from + 24) (at + 16 * count (entryAt book from)) (left - 1)
-  tested-step h e = record { placed = next (t .placed) h .placed; tested = sym (sheets-next f left from at book h e) ∙ t .tested }
-
-  pub tested-end : left ≡ 0 → true ≡ sheetsHold f (contents book) (bodies book)
-  unfolding sheetsHold pieces
-  tested-end z = rw z at (t .tested)
-
--- ---- bodies filled up to `at`, and those to come, make the whole; o is the output at first
+use Rattle.walk.specs.Walk.{entryAt, Placed, placed-start, Next, next}
 
 pub record Filled (f : List ℕ → List ℕ → List ℕ) (book o out : List ℕ) (from at left : ℕ) : Type 0 where
   pub placed : Placed book from at left

@@ -5,21 +5,11 @@ ghost use mathlib.Core.Path.{_≡_};
 ghost use mathlib.Core.List.{_++_};
 ghost use Prim.Native.Nat.{_+_, _*_, _≤_};
 ghost use lib.ListN.{length, take};
-ghost use Rattle.planbook_spec.specs.Book.{count, sheetCount, contents, bodies, eachBody};
+ghost use Rattle.planbook_spec.specs.Book.{sheetCount, contents, bodies, eachBody};
 ghost use Rattle.ffunction.specs.Tables.{Lent};
-ghost use Rattle.planbook_spec.specs.BookLaws.{Formed};
+ghost use Rattle.planbook_laws.specs.BookLaws.{Formed};
 ghost use Rattle.chain.specs.Recode.{recodedBody};
-ghost use Rattle.bodies.specs.BodiesLaws.{entryAt};
 use entries::entry;
-use sheet::recode;
-
-// Where the body ends that stands at `at`, and whose entry stands at `from`.
-pub fn body_end(book: &[u8], from: usize, at: usize) -> usize
-    requires { ⌜ (from + 24 ≤ length (now book)) × (at + 16 * count (entryAt (now book) from) ≤ length (now book)) ⌝ }
-    ensures { λ r. ⌜ r ≡ at + 16 * count (entryAt (now (book .entry)) from) ⌝ }
-{
-    at + 16 * entry::half(book, from + 4)
-}
 
 // Each body recoded where it stood, and the front of the output left as it was.
 pub fn recode_bodies(
@@ -39,8 +29,8 @@ pub fn recode_bodies(
     let mut at = 4 + 24 * left;
     while 0 < left {
         let next = from + 24;
-        let end = body_end(book, from, at);
-        recode::recode_sheet(
+        let end = walk::body_end(book, from, at);
+        sheet_recode::recode_sheet(
             decrypting,
             words,
             bytes,

@@ -13,12 +13,13 @@ use Rattle.planbook_spec.specs.Outcome.{Outcome, accepted, check, judged}
 use Rattle.planbook_spec.specs.OutcomeLaws.{judged-pass, pass-left}
 use Rattle.planbook_spec.specs.Checks.{outputCheck}
 use Rattle.planbook_spec.specs.Book.{sheetCount, contents, bodies, recordCount, formChecks, eachBody, sheetsHold, recordsCheck, formAndRecords, recoded, bookChecks}
-use Rattle.planbook_spec.specs.WalkLaws.{recoded-front, bodies-at}
+use Rattle.planbook_laws.specs.WalkLaws.{recoded-front, bodies-at}
 use Rattle.form.specs.Form.{formAnswer}
-use Rattle.planbook_spec.specs.BookLaws.{Formed, formed}
+use Rattle.planbook_laws.specs.BookLaws.{Formed, formed}
 use Rattle.answer.specs.Judging.{stopped, stopped-first, passed-first, Went, went, given-refused, given-accepted}
 use Rattle.chain.specs.Recode.{recodedBody}
-use Rattle.book.specs.Directions.{markOf, clearBody, bookAnswer, recodedBook}
+use Rattle.book_records.specs.Clear.{clearBody}
+use Rattle.book.specs.Directions.{markOf, bookAnswer, recodedBook}
 
 -- The front and the bodies are the book.
 pub recoded-whole : (mark : ℕ) (f : List ℕ → List ℕ → List ℕ) {book : List ℕ} {front : List ℕ} → Formed book → front ≡ set (take (4 + 24 * sheetCount book) book) 0 mark

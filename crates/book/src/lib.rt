@@ -1,7 +1,5 @@
 // Plan books encrypted and decrypted under expanded words and lent tables; never under a key.
 // (Document 01's terms are sealing and opening a book; a clear book has the first byte 1, and an encrypted one 2.)
-pub mod records;
-
 ghost use mathlib.Core.Path.{_≡_};
 ghost use mathlib.Core.Bool.{true, not};
 ghost use mathlib.Core.List.{[]};
@@ -11,9 +9,10 @@ ghost use Rattle.clefia_spec.specs.Block.{encryptUnder, decryptUnder};
 ghost use Rattle.planbook_spec.specs.Book.{recoded, encryptBookBy, decryptBookBy};
 ghost use Rattle.answer.specs.Answer.{Given};
 ghost use Rattle.ffunction.specs.Tables.{Lent};
-ghost use Rattle.planbook_spec.specs.BookLaws.{Formed};
+ghost use Rattle.planbook_laws.specs.BookLaws.{Formed};
 ghost use Rattle.chain.specs.Recode.{recodedBody};
-ghost use Rattle.book.specs.Directions.{Ready, markOf, bookAnswer, recodedBook};
+ghost use Rattle.book_records.specs.Clear.{Ready};
+ghost use Rattle.book.specs.Directions.{markOf, bookAnswer, recodedBook};
 use answer::Answer;
 
 // The first byte of the book that a call is given: 2 where it is encrypted, and so to be decrypted, else 1.
@@ -55,7 +54,7 @@ pub fn check_book(
     let Answer::Accepted(records) = form else {
         return form;
     };
-    if !records::records_hold(decrypting, words, bytes, w, book) {
+    if !book_records::records_hold(decrypting, words, bytes, w, book) {
         return Answer::Refused(11);
     }
     Answer::Accepted(records)

@@ -9,12 +9,12 @@ use lib.Dec.{lit<}
 use lib.ListN.{length, take, drop, length-append, length-drop}
 use lib.Seq.{length-take-le, take-at, drop-at}
 use Rattle.clefia_spec.specs.Words.{bytesOf, wordsOf, xors, choose, Below}
-use Rattle.clefia_spec.specs.DigitLaws.{below-take, below-drop, length-digitsOf, below-digitsOf, numbersOf-xors, digitsOf-xors}
-use Rattle.clefia_spec.specs.RowLaws.{Row, sized-xors}
+use Rattle.clefia_laws.specs.DigitLaws.{below-take, below-drop, length-digitsOf, below-digitsOf, numbersOf-xors, digitsOf-xors}
+use Rattle.clefia_laws.specs.RowLaws.{Row, sized-xors}
 use Rattle.clefia_spec.specs.Block.{encryptWords, decryptWords, encryptUnder, decryptUnder}
-use Rattle.clefia_spec.specs.BlockLaws.{block-words, row-block, row-encryptWords, row-decryptWords}
+use Rattle.clefia_laws.specs.BlockLaws.{block-words, row-block, row-encryptWords, row-decryptWords}
 use Rattle.planbook_spec.specs.Book.{count, iv, pieces, recordHolds, allRecordsHold, sheetHolds, cbcEncrypt, cbcDecrypt, encryptBody, decryptBody}
-use Rattle.planbook_spec.specs.WalkLaws.{encrypt-next, decrypt-next}
+use Rattle.planbook_laws.specs.WalkLaws.{encrypt-next, decrypt-next}
 use Rattle.rows.specs.Rows.{fill-end}
 use Rattle.entries.specs.Blocks.{block-at, words-at}
 use Rattle.chain.specs.declared.Chain.{Chain}

@@ -9,7 +9,7 @@ use Rattle.clefia_spec.specs.Words.{byKeyLength, KeyLength, sixteen, twentyFour
 use Rattle.clefia_spec.specs.Block.{encryptUnder, decryptUnder}
 use Rattle.planbook_spec.specs.OutcomeLaws.{pass-check}
 use Rattle.planbook_spec.specs.Checks.{keyCheck, expandedCount}
-use Rattle.planbook_spec.specs.CheckLaws.{key-permitted}
+use Rattle.planbook_laws.specs.CheckLaws.{key-permitted}
 use Rattle.checks.specs.Under.{codedUnder}
 
 -- ---- a test that the code made, by its result r

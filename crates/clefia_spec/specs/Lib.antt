@@ -8,11 +8,3 @@ pub mod KeySchedule
 pub mod Block
 pub mod Cases
 pub mod Examples
-pub mod XorLaws
-pub mod DigitLaws
-pub mod RowLaws
-pub mod NetworkLaws
-pub mod FieldLaws
-pub mod FFunctionLaws
-pub mod KeyLaws
-pub mod BlockLaws

@@ -1,7 +1,7 @@
 -- Laws of `&&`: what it comes to by either way, as code meets it, and the third of five tests that all passed.
 use mathlib.Core.Path.{_≡_, _∙_}
 use mathlib.Core.Bool.{Bool, true, false, _&&_}
-use Rattle.planbook_spec.specs.BookLaws.{and-left, and-right}
+use Rattle.planbook_laws.specs.BookLaws.{and-left, and-right}
 
 pub and-true : {p x y : Bool} → p ≡ true → x ≡ y → x ≡ (p && y)
 and-true h e = rw h e

@@ -9,7 +9,7 @@ use lib.Dec.{eqb, leb, lit<}
 use lib.ListN.{length, getD, take, drop, length-drop, take-append-drop}
 use lib.Seq.{take-append-le, drop-append-le, length-take-le}
 use Rattle.clefia_spec.specs.Words.{fromDigits, toDigits, digitsOf, numbersOf, bytesOf, wordsOf, Below}
-use Rattle.clefia_spec.specs.DigitLaws.{from-to, digits-numbers, below-take}
+use Rattle.clefia_laws.specs.DigitLaws.{from-to, digits-numbers, below-take}
 use Rattle.planbook_spec.specs.Book.{number, trial, recordHolds}
 
 -- Numbers that are written at the front of a row, whatever follows them.

@@ -7,12 +7,12 @@ use mathlib.Core.List.{List, [], _∷_}
 use lib.Bits.{xor-comm}
 use lib.ListN.{length, getD}
 use Rattle.clefia_spec.specs.Words.{_⊕_, toDigits, xors, Below, none, more}
-use Rattle.clefia_spec.specs.XorLaws.{xor-assoc}
-use Rattle.clefia_spec.specs.DigitLaws.{below-xors, fromDigits-xors}
+use Rattle.clefia_laws.specs.XorLaws.{xor-assoc}
+use Rattle.clefia_laws.specs.DigitLaws.{below-xors, fromDigits-xors}
 use Rattle.clefia_spec.specs.Field.{product}
-use Rattle.clefia_spec.specs.FieldLaws.{product-lt}
+use Rattle.clefia_laws.specs.FieldLaws.{product-lt}
 use Rattle.clefia_spec.specs.FFunction.{entry, rowTimes, matrixTimes, substitute}
-use Rattle.clefia_spec.specs.FFunctionLaws.{s0-lt, s1-lt}
+use Rattle.clefia_laws.specs.FFunctionLaws.{s0-lt, s1-lt}
 use Rattle.gf256.specs.Values.{value, length-values}
 use Rattle.sbox.specs.Boxes.{box}
 use Rattle.ffunction.specs.Tables.{matrix, mix, columnTimes, column, wordTable, wordTables}

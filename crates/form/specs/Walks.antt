@@ -8,7 +8,7 @@ use borrow.Author.Tests.{eq-eqb, ne-eqb}
 use lib.ListN.{length, take, drop}
 use Rattle.answer.specs.declared.Answer.the-variants.{Accepted, Refused}
 use Rattle.planbook_spec.specs.Outcome.{judged}
-use Rattle.planbook_spec.specs.WalkLaws.{pieces-next}
+use Rattle.planbook_laws.specs.WalkLaws.{pieces-next}
 use Rattle.planbook_spec.specs.Book.{trial, count, pieces, entryHolds, entriesHold, sheetCount, contents, recordCount, formChecks}
 use Rattle.entries.specs.declared.entry.Sheet.{Sheet}
 use Rattle.entries.specs.declared.entry.Entry.the-variants.{Good, Broken}

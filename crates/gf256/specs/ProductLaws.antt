@@ -5,7 +5,7 @@ use native.Mathlib.Omega.{arith}
 use mathlib.Core.Path.{_≡_}
 use Rattle.clefia_spec.specs.Words.{_⊕_}
 use Rattle.clefia_spec.specs.Field.{double, double8, addProduct}
-use Rattle.clefia_spec.specs.FieldLaws.{agree}
+use Rattle.clefia_laws.specs.FieldLaws.{agree}
 
 -- A byte doubled stays a byte: what is shifted out and the polynomial's highest bit cancel.
 abbrev pub doubleByte : ℕ → ℕ

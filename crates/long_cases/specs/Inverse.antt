@@ -6,7 +6,7 @@ use borrow.Author.Tests.{ne-eqb}
 use lib.Dec.{T, eqb}
 use Rattle.clefia_spec.specs.Words.{choose}
 use Rattle.clefia_spec.specs.Field.{double, addProduct, product, squares, inverse}
-use Rattle.clefia_spec.specs.FieldLaws.{allBelow, agree}
+use Rattle.clefia_laws.specs.FieldLaws.{allBelow, agree}
 
 inverted : T (allBelow (λ x. eqb (product x (inverse x)) (choose (eqb x 0) 0 1)) 256)
 unfolding double addProduct product squares inverse

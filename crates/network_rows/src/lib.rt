@@ -7,10 +7,10 @@ ghost use Rattle.clefia_spec.specs.FFunction.{f0, f1};
 ghost use Rattle.clefia_spec.specs.Network.{rotateLeft, rotateRight, rounds, undoRounds, network4, inverseNetwork4};
 ghost use Rattle.ffunction.specs.Tables.{wordTables, Lent};
 ghost use Rattle.network_rows.specs.Four.{each, addF0, addF1, Keys};
+use feistel::rotate_left4;
+use feistel::rotate_right4;
 use network::inverse_network4;
 use network::network4;
-use network::rotate_left4;
-use network::rotate_right4;
 
 pub struct FourRows {
     pub a: [u32; 4],

@@ -2,13 +2,13 @@
 ghost use Rattle.planbook_spec.specs.Outcome.{Answers};
 ghost use Rattle.planbook_spec.specs.Checks.{constantsCall, expandKeyCall, encryptBlockCall, decryptBlockCall};
 ghost use Rattle.planbook_spec.specs.Book.{encryptBookCall, decryptBookCall};
-use calls::Task;
+use tasks::Task;
 
 #[no_mangle]
 pub extern "C" fn planbook_constants(key_length: u64, out: &mut [u8]) -> u64
     ensures { λ r. ⌜ Answers (constantsCall «key_length» (now (out .entry))) (now (out .entry)) r (now (out .exit)) ⌝ }
 {
-    answer::number(calls::constants(key_length, out))
+    answer::number(constants_call::constants(key_length, out))
 }
 
 #[no_mangle]

@@ -4,11 +4,3 @@ pub mod Outcome
 pub mod Checks
 pub mod Book
 pub mod OutcomeLaws
-pub mod CheckLaws
-pub mod Undoing
-pub mod BookLaws
-pub mod BookCipher
-pub mod Demands
-pub mod OutputLengths
-pub mod Received
-pub mod WalkLaws

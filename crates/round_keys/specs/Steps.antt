@@ -8,7 +8,7 @@ use lib.Dec.{eqb, ltb}
 use lib.ListN.{length, take}
 use borrow.Author.Tests.{lt-ltb}
 use Rattle.clefia_spec.specs.Words.{fourAt, xors, choose}
-use Rattle.clefia_spec.specs.DigitLaws.{length-xors}
+use Rattle.clefia_laws.specs.DigitLaws.{length-xors}
 use Rattle.clefia_spec.specs.KeySchedule.{doubleSwap, stepKeys, roundKeys}
 use Rattle.rows.specs.Rows.{putFour, fill-four}
 

@@ -7,7 +7,7 @@ use lib.Dec.{lit<}
 use lib.Pow.{pow-add}
 use lib.ListN.{length, length-append}
 use Rattle.clefia_spec.specs.Words.{fromDigits, toDigits, digitsOf, numbersOf}
-use Rattle.clefia_spec.specs.DigitLaws.{length-toDigits, from-to}
+use Rattle.clefia_laws.specs.DigitLaws.{length-toDigits, from-to}
 use Rattle.clefia_spec.specs.KeySchedule.{bitRange, doubleSwapBits, doubleSwap}
 
 -- The digits of a number: the first j of them, and the last k.

@@ -9,7 +9,7 @@ use lib.ListN.{length, getD, drop, drop-of-length-le}
 use lib.Seq.{drop-cons}
 use Rattle.clefia_spec.specs.Words.{_⊕_, fromDigits}
 use Rattle.clefia_spec.specs.Field.{double, addProduct, product, squares, inverse}
-use Rattle.clefia_spec.specs.FieldLaws.{allBelow, tested, agree}
+use Rattle.clefia_laws.specs.FieldLaws.{allBelow, tested, agree}
 use Rattle.clefia_spec.specs.Sbox.{ss0, ss1, ss2, ss3, bitOf, sumOfBits, affine, fRows, gRows, s1}
 
 unfoldable pub fourBitBoxes : List (List ℕ)

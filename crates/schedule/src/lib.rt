@@ -8,6 +8,7 @@ ghost use Rattle.ffunction.specs.Tables.{Lent};
 use network8::first_half;
 use network8::joined;
 use network8::second_half;
+use round_keys::constants;
 use round_keys::round_keys;
 
 // A key of four words.
@@ -16,7 +17,7 @@ fn expand_short(words: &[[u32; 256]], bytes: &[[u8; 256]], k: [u32; 4], w: &mut 
     requires { ⌜ length (now w) ≡ 40 ⌝ }
     ensures { λ r. ⌜ now (w .exit) ≡ expandShort k ⌝ }
 {
-    let con = constant_tables::sixteen();
+    let con = constants::sixteen();
     let l = network::network4(words, bytes, &con, 12, 0, k);
     rows::put_four(w, 0, k);
     round_keys(2, 24, &con, 9, k, k, l, l, w);
@@ -66,10 +67,10 @@ pub fn expand_key(words: &[[u32; 256]], bytes: &[[u8; 256]], key: &[u8], w: &mut
     if key.len() == 16 {
         expand_short(words, bytes, k, w);
     } else if key.len() == 24 {
-        let con = constant_tables::twenty_four();
+        let con = constants::twenty_four();
         expand_long(words, bytes, &con, 11, k, extend_key(key), w);
     } else {
-        let con = constant_tables::thirty_two();
+        let con = constants::thirty_two();
         expand_long(words, bytes, &con, 13, k, rows::load(key, 16), w);
     }
 }

@@ -8,8 +8,8 @@ use lib.ListN.{length, take, drop}
 use Rattle.planbook_spec.specs.Book.{count}
 use Rattle.entries.specs.Parts.{part, part-length}
 use Rattle.chain.specs.Recode.{recodedBody}
-use Rattle.bodies.specs.BodiesLaws.{entryAt}
-use Rattle.bodies.specs.BodiesLaws.{Next, next, Filled, filled-start, filled-step, filled-end}
+use Rattle.walk.specs.Walk.{entryAt, Next, next}
+use Rattle.bodies.specs.BodiesLaws.{Filled, filled-start, filled-step, filled-end}
 use Rattle.bodies.proofs.recode_bodies.Statement.{statement}
 use Rattle.bodies.proofs.recode_bodies.Tie as tie
 

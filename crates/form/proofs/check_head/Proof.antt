@@ -9,7 +9,7 @@ use lib.Dec.{eqb, leb}
 use lib.ListN.{length, getD}
 use Rattle.planbook_spec.specs.Outcome.{judged}
 use Rattle.planbook_spec.specs.Book.{formChecks}
-use Rattle.planbook_spec.specs.BookLaws.{and-left}
+use Rattle.planbook_laws.specs.BookLaws.{and-left}
 use borrow.Author.Needs.{needs}
 use Rattle.form.proofs.check_head.Statement.{statement}
 use Rattle.form.proofs.check_head.Tie as tie

@@ -2,7 +2,7 @@
 use borrow.Author.Needs.{needs}
 use Rattle.answer.specs.Answer.{answers}
 use Rattle.answer.specs.Judging.{given-same}
-use Rattle.calls.specs.Tasks.{decrypt-block-keyed}
+use Rattle.tasks.specs.Tasks.{decrypt-block-keyed}
 use Rattle.planbook.proofs.planbook_decrypt_block.Statement.{statement}
 use Rattle.planbook.proofs.planbook_decrypt_block.Tie as tie
 

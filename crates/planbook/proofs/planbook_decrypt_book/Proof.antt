@@ -2,7 +2,7 @@
 use borrow.Author.Needs.{needs}
 use Rattle.answer.specs.Answer.{answers}
 use Rattle.answer.specs.Judging.{given-same}
-use Rattle.calls.specs.Tasks.{decrypt-book-keyed}
+use Rattle.tasks.specs.Tasks.{decrypt-book-keyed}
 use Rattle.planbook.proofs.planbook_decrypt_book.Statement.{statement}
 use Rattle.planbook.proofs.planbook_decrypt_book.Tie as tie
 

@@ -2,7 +2,7 @@
 use borrow.Author.Needs.{needs}
 use Rattle.answer.specs.Answer.{answers}
 use Rattle.answer.specs.Judging.{given-same}
-use Rattle.calls.specs.Tasks.{encrypt-block-keyed}
+use Rattle.tasks.specs.Tasks.{encrypt-block-keyed}
 use Rattle.planbook.proofs.planbook_encrypt_block.Statement.{statement}
 use Rattle.planbook.proofs.planbook_encrypt_block.Tie as tie
 

@@ -2,7 +2,7 @@
 use borrow.Author.Needs.{needs}
 use Rattle.answer.specs.Answer.{answers}
 use Rattle.answer.specs.Judging.{given-same}
-use Rattle.calls.specs.Tasks.{encrypt-book-keyed}
+use Rattle.tasks.specs.Tasks.{encrypt-book-keyed}
 use Rattle.planbook.proofs.planbook_encrypt_book.Statement.{statement}
 use Rattle.planbook.proofs.planbook_encrypt_book.Tie as tie
 

@@ -2,7 +2,7 @@
 use borrow.Author.Needs.{needs}
 use Rattle.answer.specs.Answer.{answers}
 use Rattle.answer.specs.Judging.{given-same}
-use Rattle.calls.specs.Tasks.{expand-key-keyed}
+use Rattle.tasks.specs.Tasks.{expand-key-keyed}
 use Rattle.planbook.proofs.planbook_expand_key.Statement.{statement}
 use Rattle.planbook.proofs.planbook_expand_key.Tie as tie
 

@@ -6,7 +6,7 @@ use mathlib.Core.Path.{_≡_, refl, sym, _∙_}
 use native.Mathlib.Nat.{sub-zero}
 use lib.ListN.{length, take}
 use borrow.Author.Needs.{needs}
-use Rattle.clefia_spec.specs.KeyLaws.{length-doubleSwap}
+use Rattle.clefia_laws.specs.KeyLaws.{length-doubleSwap}
 use Rattle.clefia_spec.specs.KeySchedule.{roundKeys}
 use Rattle.rows.specs.Rows.{fill-end}
 use Rattle.round_keys.specs.Steps.{fill, none-left}

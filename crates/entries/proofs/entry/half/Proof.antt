@@ -1,6 +1,6 @@
 -- `entries::entry::half` meets its contract.
 use mathlib.Core.Path.{sym, _∙_}
-use Rattle.planbook_spec.specs.WalkLaws.{number-two}
+use Rattle.planbook_laws.specs.WalkLaws.{number-two}
 use borrow.Author.Needs.{needs}
 use Rattle.entries.proofs.entry.half.Statement.{statement}
 use Rattle.entries.proofs.entry.half.Tie as tie

@@ -3,14 +3,14 @@ use mathlib.Core.List.{List}
 use native.Mathlib.Omega.{arith}
 use borrow.Author.Tests.{not-true, not-false}
 use Rattle.clefia_spec.specs.Words.{bytesOf, Below}
-use Rattle.clefia_spec.specs.DigitLaws.{below-all, below-drop}
+use Rattle.clefia_laws.specs.DigitLaws.{below-all, below-drop}
 use Rattle.entries.specs.Entry.{sheetOf}
 use Prim.Native.Nat.{ℕ, _+_, _*_, _≤_}
 use mathlib.Core.Path.{_≡_, refl, sym, ap, _∙_}
 use borrow.Author.Needs.{needs}
 use lib.ListN.{length, take, drop, length-drop}
 use Rattle.planbook_spec.specs.Book.{count, pieces, recordHolds, allRecordsHold, sheetHolds}
-use Rattle.planbook_spec.specs.WalkLaws.{records-next}
+use Rattle.planbook_laws.specs.WalkLaws.{records-next}
 use Rattle.entries.specs.Blocks.{block-at}
 use Rattle.entries.proofs.record.clear_sheet_holds.Statement.{statement}
 use Rattle.entries.proofs.record.clear_sheet_holds.Tie as tie

@@ -4,7 +4,7 @@ use native.Mathlib.Omega.{arith}
 use lib.Bits.{xor-lt}
 use Rattle.clefia_spec.specs.Words.{_⊕_}
 use Rattle.clefia_spec.specs.Field.{double, double4}
-use Rattle.clefia_spec.specs.FieldLaws.{agree}
+use Rattle.clefia_laws.specs.FieldLaws.{agree}
 use borrow.Author.Needs.{needs}
 use Rattle.sbox.proofs.rules.double_four_bits.Statement.{statement}
 use Rattle.sbox.proofs.rules.double_four_bits.Tie as tie

@@ -1,0 +1,102 @@
+-- Decryption undoes encryption and encryption undoes decryption, on every block: under any words of a permitted count, and under every key of a permitted
+-- length. So encryption is injective. What comes out is a block of 16 bytes.
+use Prim.Native.Nat.{ℕ, _*_, _^_, _<_}
+use mathlib.Core.Path.{_≡_, refl, sym, ap, _∙_}
+use mathlib.Core.List.{List, [], _∷_}
+use lib.Dec.{lit<}
+use lib.ListN.{length, getD}
+use Rattle.clefia_spec.specs.Words.{bytesOf, wordsOf, KeyLength, Below, none, more}
+use Rattle.clefia_laws.specs.DigitLaws.{length-digitsOf, length-numbersOf, numbers-digits, digits-numbers, below-digitsOf, below-numbersOf, below-getD, xors-cancel}
+use Rattle.clefia_spec.specs.FFunction.{f0, f1}
+use Rattle.clefia_laws.specs.FFunctionLaws.{f0-lt, f1-lt}
+use Rattle.clefia_spec.specs.Network.{network4, inverseNetwork4}
+use Rattle.clefia_laws.specs.NetworkLaws.{undo-network, redo-network, length-inverseNetwork, below-inverseNetwork}
+use Rattle.clefia_laws.specs.KeyLaws.{row-network, row-expandKey}
+use Rattle.clefia_laws.specs.RowLaws.{Bytes, Row, sized-xors, Undone}
+use Rattle.clefia_spec.specs.Block.{whiten, roundCount, encryptWords, decryptWords, encryptUnder, decryptUnder, encrypt, decrypt}
+
+-- ---- four words, under any words w
+
+whiten-twice : (a b : ℕ) (s : List ℕ) → whiten a b (whiten a b s) ≡ s
+unfolding whiten
+whiten-twice a b s = xors-cancel (0 ∷ a ∷ 0 ∷ b ∷ []) s
+
+pub decrypt-encrypt-words : (w s : List ℕ) → decryptWords w (encryptWords w s) ≡ s
+unfolding encryptWords decryptWords
+decrypt-encrypt-words w s =
+    ap (λ (t : List ℕ). whiten (getD w 0 0) (getD w 1 0) (inverseNetwork4 (roundCount w) w 4 t)) (whiten-twice (getD w 2 0) (getD w 3 0) _)
+    ∙ ap (whiten (getD w 0 0) (getD w 1 0)) (undo-network 2 f0 f1 (roundCount w) w 4 (whiten (getD w 0 0) (getD w 1 0) s))
+    ∙ whiten-twice (getD w 0 0) (getD w 1 0) s
+
+pub encrypt-decrypt-words : (w s : List ℕ) → encryptWords w (decryptWords w s) ≡ s
+unfolding encryptWords decryptWords
+encrypt-decrypt-words w s =
+    ap (λ (t : List ℕ). whiten (getD w 2 0) (getD w 3 0) (network4 (roundCount w) w 4 t)) (whiten-twice (getD w 0 0) (getD w 1 0) _)
+    ∙ ap (whiten (getD w 2 0) (getD w 3 0)) (redo-network 2 f0 f1 (roundCount w) w 4 (whiten (getD w 2 0) (getD w 3 0) s))
+    ∙ whiten-twice (getD w 2 0) (getD w 3 0) s
+
+row-whiten : {a b : ℕ} → a < 2 ^ 32 → b < 2 ^ 32 → {n : ℕ} {s : List ℕ} → Row n s → Row n (whiten a b s)
+unfolding whiten
+row-whiten ha hb h = sized-xors 32 (record { size = refl; below = more (lit< tt) (more ha (more (lit< tt) (more hb none))) }) h
+
+module _ {w : List ℕ} (words : Below (2 ^ 32) w) where
+  at : (i : ℕ) → getD w i 0 < 2 ^ 32
+  at i = below-getD (lit< tt) words i
+
+  pub row-encryptWords : {n : ℕ} {s : List ℕ} → Row n s → Row n (encryptWords w s)
+  unfolding encryptWords
+  row-encryptWords h = row-whiten (at 2) (at 3) (row-network 2 (roundCount w) w 4 (row-whiten (at 0) (at 1) h))
+
+  pub row-decryptWords : {n : ℕ} {s : List ℕ} → Row n s → Row n (decryptWords w s)
+  unfolding decryptWords
+  row-decryptWords h = row-whiten (at 0) (at 1) (row-back (row-whiten (at 2) (at 3) h))
+    where
+      row-back : {n : ℕ} {s : List ℕ} → Row n s → Row n (inverseNetwork4 (roundCount w) w 4 s)
+      row-back {s = s} p =
+          record {
+            size = length-inverseNetwork 2 f0 f1 (roundCount w) w 4 s ∙ p .size;
+            below = below-inverseNetwork 2 f0 f1 32 f0-lt f1-lt (roundCount w) w 4 (p .below);
+          }
+
+-- ---- bytes of four words, and back
+
+pub block-words : {s : List ℕ} → Row 4 s → wordsOf 4 (bytesOf s) ≡ s
+block-words {s} h = ap (λ (n : ℕ). wordsOf n (bytesOf s)) (sym (h .size)) ∙ numbers-digits (lit< tt) 4 (h .below)
+
+pub words-block : {b : List ℕ} → Bytes 16 b → bytesOf (wordsOf 4 b) ≡ b
+words-block {b} h = digits-numbers (lit< tt) 4 4 b (h .below) (h .size)
+
+pub row-block : {b : List ℕ} → Below 256 b → Row 4 (wordsOf 4 b)
+row-block {b} r = record { size = length-numbersOf 256 4 4 b; below = below-numbersOf (lit< tt) 4 4 r }
+
+pub block-row : {s : List ℕ} → Row 4 s → Bytes 16 (bytesOf s)
+block-row {s} h = record { size = length-digitsOf 256 4 s ∙ ap (λ (n : ℕ). n * 4) (h .size); below = below-digitsOf (lit< tt) 4 s }
+
+-- ---- blocks
+
+-- a function on rows of four words, taken to the bytes of a block
+undoes-bytes : (f g : List ℕ → List ℕ) → ((s : List ℕ) → Row 4 s → Row 4 (f s)) → ((s : List ℕ) → g (f s) ≡ s)
+    → Undone (Bytes 16) (λ b. bytesOf (f (wordsOf 4 b))) (λ b. bytesOf (g (wordsOf 4 b)))
+undoes-bytes f g kept back =
+    record {
+      keeps = λ b h. block-row (kept (wordsOf 4 b) (row-block (h .below)));
+      back = λ b h. ap (λ (s : List ℕ). bytesOf (g s)) (block-words (kept (wordsOf 4 b) (row-block (h .below)))) ∙ ap bytesOf (back (wordsOf 4 b)) ∙ words-block h;
+    }
+
+module _ {w : List ℕ} (words : Below (2 ^ 32) w) where
+  pub decrypt-undoes-encrypt-under : Undone (Bytes 16) (encryptUnder w) (decryptUnder w)
+  unfolding encryptUnder decryptUnder
+  decrypt-undoes-encrypt-under = undoes-bytes (encryptWords w) (decryptWords w) (λ s h. row-encryptWords words h) (decrypt-encrypt-words w)
+
+  pub encrypt-undoes-decrypt-under : Undone (Bytes 16) (decryptUnder w) (encryptUnder w)
+  unfolding encryptUnder decryptUnder
+  encrypt-undoes-decrypt-under = undoes-bytes (decryptWords w) (encryptWords w) (λ s h. row-decryptWords words h) (encrypt-decrypt-words w)
+
+module _ {key : List ℕ} (size : KeyLength (length key)) (bytes : Below 256 key) where
+  pub decrypt-undoes-encrypt : Undone (Bytes 16) (encrypt key) (decrypt key)
+  unfolding encrypt decrypt
+  decrypt-undoes-encrypt = decrypt-undoes-encrypt-under (row-expandKey size bytes .below)
+
+  pub encrypt-undoes-decrypt : Undone (Bytes 16) (decrypt key) (encrypt key)
+  unfolding encrypt decrypt
+  encrypt-undoes-decrypt = encrypt-undoes-decrypt-under (row-expandKey size bytes .below)

@@ -1,0 +1,8 @@
+pub mod XorLaws
+pub mod DigitLaws
+pub mod RowLaws
+pub mod NetworkLaws
+pub mod FieldLaws
+pub mod FFunctionLaws
+pub mod KeyLaws
+pub mod BlockLaws

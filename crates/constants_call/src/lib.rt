@@ -1,0 +1,20 @@
+// The call for the constants of a key length.
+ghost use Rattle.planbook_spec.specs.Checks.{constantsCall};
+ghost use Rattle.answer.specs.Answer.{Given};
+use answer::Answer;
+use round_keys::constants;
+
+pub fn constants(key_length: u64, out: &mut [u8]) -> Answer
+    ensures { λ r. ⌜ Given (constantsCall «key_length» (now (out .entry))) (now (out .entry)) r (now (out .exit)) ⌝ }
+{
+    if key_length == 16 {
+        return checks::write_words(&constants::sixteen(), out);
+    }
+    if key_length == 24 {
+        return checks::write_words(&constants::twenty_four(), out);
+    }
+    if key_length == 32 {
+        return checks::write_words(&constants::thirty_two(), out);
+    }
+    Answer::Refused(1)
+}

@@ -1,0 +1,60 @@
+-- An accepted call gives exactly as many bytes as the lent output has: no outcome asks for what no call could do.
+use Prim.Native.Nat.{ℕ, _*_}
+use mathlib.Core.List.{List}
+use mathlib.Core.Path.{_≡_, sym, ap, _∙_}
+use native.Mathlib.Nat.{mul-comm}
+use lib.ListN.{length}
+use Rattle.clefia_spec.specs.Words.{KeyLength, Below, bytesOf}
+use Rattle.clefia_laws.specs.RowLaws.{Bytes, Undone}
+use Rattle.clefia_laws.specs.DigitLaws.{length-digitsOf}
+use Rattle.clefia_laws.specs.KeyLaws.{length-constants, length-expandKey}
+use Rattle.planbook_spec.specs.Outcome.{accepted, judged}
+use Rattle.planbook_spec.specs.OutcomeLaws.{pass-tail, passed}
+use Rattle.planbook_spec.specs.Checks.{keyAndWay, constantCount, expandedCount, constantsCall, expandKeyCall, blockChecks, encryptBlockCall, decryptBlockCall}
+use Rattle.planbook_laws.specs.CheckLaws.{key-permitted, output-size, block-size}
+use Rattle.planbook_spec.specs.Book.{encryptBookCall, decryptBookCall}
+use Rattle.planbook_laws.specs.BookCipher.{encrypted-length, decrypted-length}
+use Rattle.planbook_laws.specs.Demands.{cipher, encryptBook-key, decryptBook-key}
+
+-- The bytes of n words.
+words-length : (ws : List ℕ) (n : ℕ) → length ws ≡ n → length (bytesOf ws) ≡ 4 * n
+words-length ws n e = length-digitsOf 256 4 ws ∙ ap (λ (k : ℕ). k * 4) e ∙ mul-comm n 4
+
+pub constants-length : (keyLength : ℕ) (out : List ℕ) {n : ℕ} {bs : List ℕ} → constantsCall keyLength out ≡ accepted n bs → length bs ≡ length out
+unfolding constantsCall constantCount
+constants-length keyLength out a =
+    let p = passed _ _ _ a in
+    ap length (sym (p .sameBytes)) ∙ words-length _ _ (length-constants (key-permitted (p .checks))) ∙ sym (output-size out (pass-tail (p .checks)))
+
+pub expandKey-length : (key : List ℕ) (way : ℕ) (out : List ℕ) {n : ℕ} {bs : List ℕ} → Below 256 key → expandKeyCall key way out ≡ accepted n bs → length bs ≡ length out
+unfolding expandKeyCall expandedCount
+expandKey-length key way out r a =
+    let p = passed _ _ _ a in
+    ap length (sym (p .sameBytes)) ∙ words-length _ _ (length-expandKey (key-permitted (p .checks)) r) ∙ sym (output-size out (pass-tail (pass-tail (p .checks))))
+
+module _ (key : List ℕ) (way : ℕ) (block out : List ℕ) {n : ℕ} {bs : List ℕ} (bytes : Below 256 key) (below : Below 256 block) where
+  block-length : {F G : List ℕ → List ℕ} → (KeyLength (length key) → Undone (Bytes 16) F G)
+      → judged (blockChecks (keyAndWay key way) block out) (accepted 1 (F block)) ≡ accepted n bs → length bs ≡ length out
+  unfolding blockChecks
+  block-length u a =
+      let p = passed _ _ _ a in
+      ap length (sym (p .sameBytes))
+      ∙ u (key-permitted (p .checks)) .keeps block (record { size = block-size block (pass-tail (pass-tail (p .checks))); below = below }) .size
+      ∙ sym (output-size out (pass-tail (pass-tail (pass-tail (p .checks)))))
+
+  pub encryptBlock-length : encryptBlockCall key way block out ≡ accepted n bs → length bs ≡ length out
+  unfolding encryptBlockCall
+  encryptBlock-length = block-length (λ k. cipher k bytes .encrypted)
+
+  pub decryptBlock-length : decryptBlockCall key way block out ≡ accepted n bs → length bs ≡ length out
+  unfolding decryptBlockCall
+  decryptBlock-length = block-length (λ k. cipher k bytes .decrypted)
+
+module _ (key : List ℕ) (way : ℕ) (book out : List ℕ) {n : ℕ} {bs : List ℕ} (bytes : Below 256 key) (below : Below 256 book) where
+  pub encryptBook-length : encryptBookCall key way book out ≡ accepted n bs → length bs ≡ length out
+  unfolding encryptBookCall
+  encryptBook-length a = encrypted-length _ _ (cipher (encryptBook-key key way book out a) bytes) _ book out below a
+
+  pub decryptBook-length : decryptBookCall key way book out ≡ accepted n bs → length bs ≡ length out
+  unfolding decryptBookCall
+  decryptBook-length a = decrypted-length _ _ (cipher (decryptBook-key key way book out a) bytes) _ book out below a

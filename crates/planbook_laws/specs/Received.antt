@@ -1,0 +1,142 @@
+-- The demands, of what a C program receives: a call's number r and the lent output at exit. Of both a call's contract states `Answers`, and nothing else of
+-- the call is used here. Keys, blocks and books are rows of bytes: Below 256.
+use Prim.Native.Nat.{ℕ, _*_, _/_, _^_, _≤_, _<_}
+use mathlib.Core.Bool.{Bool, true, false, _&&_}
+use mathlib.Core.List.{List, [], _∷_}
+use mathlib.Core.Logic.{_⊎_, inl, inr, ⊎-elim}
+use mathlib.Core.Path.{_≡_, refl, sym, ap, subst}
+use native.Mathlib.Omega.{arith}
+use borrow.Author.Tests.{leb-true}
+use lib.Dec.{eqb, leb, lit<}
+use lib.ListN.{length}
+use Rattle.clefia_spec.specs.Words.{choose, byKeyLength, Below}
+use Rattle.clefia_spec.specs.Block.{decrypt}
+use Rattle.planbook_spec.specs.Outcome.{Outcome, refused, accepted, answer, after, Answers, Check, check, judged}
+use Rattle.planbook_spec.specs.OutcomeLaws.{AllPass, none, more, answers-equal, Accepted, accepting}
+use Rattle.planbook_spec.specs.Checks.{keyCheck, wayCheck, blockCheck, outputCheck, keyAndWay, constantCount, expandedCount, constantsCall, expandKeyCall, blockChecks, encryptBlockCall, decryptBlockCall}
+use Rattle.planbook_laws.specs.CheckLaws.{Way}
+use Rattle.planbook_spec.specs.Book.{formChecks, recordsCheck, asItIs, decryptBody, bookChecks, encryptBookBy, decryptBookBy, encryptBookCall, decryptBookCall}
+use Rattle.planbook_laws.specs.BookLaws.{and-left, and-right, formed-count}
+use Rattle.planbook_laws.specs.BookCipher.{book-formed}
+use Rattle.planbook_laws.specs.Demands.{demand2-decrypts, demand2-encrypts, demand2-block-decrypts, demand2-block-encrypts, EncryptedAlike, demand3}
+
+-- An outcome whose number can be read: a check is one of the eleven, and a count is below 2 ^ 32.
+pub data Readable : Outcome → Type 0 where
+  refusal : {c : ℕ} → 1 ≤ c → c ≤ 11 → Readable (refused c)
+  acceptance : {n : ℕ} {bs : List ℕ} → n < 2 ^ 32 → Readable (accepted n bs)
+
+-- ---- what r and exit tell, whatever the call
+
+-- A refusal, under the check r / 2 ^ 32, with the count 0 and the output as lent.
+pub record Refusal (o : Outcome) (out : List ℕ) (r : ℕ) (exit : List ℕ) : Type 0 where
+  pub outcome : o ≡ refused (r / 2 ^ 32)
+  pub least : 1 ≤ r / 2 ^ 32
+  pub most : r / 2 ^ 32 ≤ 11
+  pub number : r ≡ r / 2 ^ 32 * 2 ^ 32
+  pub untouched : exit ≡ out
+
+-- Acceptance: r is the count, and exit the bytes.
+pub record Acceptance (o : Outcome) (r : ℕ) (exit : List ℕ) : Type 0 where
+  pub outcome : o ≡ accepted r exit
+  pub below : r < 2 ^ 32
+
+pub received : {o : Outcome} → Readable o → {out : List ℕ} {r : ℕ} {exit : List ℕ} → Answers o out r exit → Refusal o out r exit ⊎ Acceptance o r exit
+unfolding answer after
+received (refusal {c = c} h k) {out} {r} a =
+    let e : r ≡ c * 2 ^ 32 = a .number in
+    let q : c ≡ r / 2 ^ 32 = omega arith in
+    inl (record { outcome = ap refused q; least = omega arith; most = omega arith; number = omega arith; untouched = a .output })
+received (acceptance {n = n} h) {r = r} a = let e : r ≡ n = a .number in inr (record { outcome = cc (a .output); below = omega arith })
+
+-- A number below 2 ^ 32 is acceptance, and nothing else is.
+pub accepts : {o : Outcome} → Readable o → {out : List ℕ} {r : ℕ} {exit : List ℕ} → Answers o out r exit → r < 2 ^ 32 → o ≡ accepted r exit
+accepts p a h = ⊎-elim (λ x. let z : ⊥ = omega (arith, x .least) in absurd z) (λ x. x .outcome) (received p a)
+
+-- The number and the bytes of an outcome that is known to be accepted.
+told : {o : Outcome} {n : ℕ} {bs out : List ℕ} {r : ℕ} {exit : List ℕ} → o ≡ accepted n bs → Answers o out r exit → (r ≡ n) × (exit ≡ bs)
+unfolding answer after
+told {out = out} e a = answers-equal a (record { number = sym (ap answer e); output = sym (ap (after out) e) })
+
+-- ---- every call's outcome can be read
+
+-- Every check of a list has one of the eleven numbers: a test that computes, whichever of them pass.
+unfoldable numbered : List Check → Bool
+numbered [] = true
+numbered (check c b ∷ cs) = leb 1 c && leb c 11 && numbered cs
+
+readable : (cs : List Check) (n : ℕ) (bs : List ℕ) → numbered cs ≡ true → (AllPass cs → n < 2 ^ 32) → Readable (judged cs (accepted n bs))
+unfolding judged numbered
+readable [] n bs e f = acceptance (f none)
+readable (check c true ∷ cs) n bs e f = readable cs n bs (and-right (leb 1 c && leb c 11) _ e) (λ p. f (more p))
+readable (check c false ∷ cs) n bs e f =
+    let h : leb 1 c && leb c 11 ≡ true = and-left (leb 1 c && leb c 11) (numbered cs) e in
+    refusal (leb-true 1 c (and-left (leb 1 c) (leb c 11) h)) (leb-true c 11 (and-right (leb 1 c) (leb c 11) h))
+
+numbered-book : (key : List ℕ) (way mark : ℕ) (f : List ℕ → List ℕ → List ℕ) (book out : List ℕ) → numbered (bookChecks (keyAndWay key way) mark f book out) ≡ true
+unfolding bookChecks formChecks recordsCheck keyCheck wayCheck outputCheck numbered
+numbered-book key way mark f book out = refl
+
+chosen-lt : (t : Bool) {a b m : ℕ} → a < m → b < m → choose t a b < m
+chosen-lt true h k = h
+chosen-lt false h k = k
+
+count-lt : (n : ℕ) {a b c m : ℕ} → a < m → b < m → c < m → byKeyLength n a b c < m
+count-lt n h k l = chosen-lt (eqb n 16) h (chosen-lt (eqb n 24) k l)
+
+pub readable-constants : (keyLength : ℕ) (out : List ℕ) → Readable (constantsCall keyLength out)
+unfolding constantsCall keyCheck outputCheck constantCount numbered
+readable-constants keyLength out = readable _ _ _ refl (λ p. count-lt keyLength (lit< tt) (lit< tt) (lit< tt))
+
+module _ (key : List ℕ) (way : ℕ) where
+  pub readable-expandKey : (out : List ℕ) → Readable (expandKeyCall key way out)
+  unfolding expandKeyCall keyCheck wayCheck outputCheck expandedCount numbered
+  readable-expandKey out = readable _ _ _ refl (λ p. count-lt (length key) (lit< tt) (lit< tt) (lit< tt))
+
+  pub readable-encryptBlock : (block out : List ℕ) → Readable (encryptBlockCall key way block out)
+  unfolding encryptBlockCall blockChecks keyCheck wayCheck blockCheck outputCheck numbered
+  readable-encryptBlock block out = readable _ _ _ refl (λ p. lit< tt)
+
+  pub readable-decryptBlock : (block out : List ℕ) → Readable (decryptBlockCall key way block out)
+  unfolding decryptBlockCall blockChecks keyCheck wayCheck blockCheck outputCheck numbered
+  readable-decryptBlock block out = readable _ _ _ refl (λ p. lit< tt)
+
+  pub readable-encryptBook : (book out : List ℕ) → Readable (encryptBookCall key way book out)
+  unfolding encryptBookCall encryptBookBy
+  readable-encryptBook book out = readable (bookChecks (keyAndWay key way) 1 asItIs book out) _ _ (numbered-book key way _ _ book out) (λ p. formed-count (book-formed _ _ _ book out p))
+
+  pub readable-decryptBook : (book out : List ℕ) → Readable (decryptBookCall key way book out)
+  unfolding decryptBookCall decryptBookBy
+  readable-decryptBook book out = readable (bookChecks (keyAndWay key way) 2 (decryptBody (decrypt key)) book out) _ _ (numbered-book key way _ _ book out) (λ p. formed-count (book-formed _ _ _ book out p))
+
+-- ---- demand 2: where the first number is below 2 ^ 32, the other call gives the number and the bytes back
+
+module _ (key : List ℕ) (bytes : Below 256 key) (way way′ : ℕ) (permitted : Way way′) (src out out′ : List ℕ) (below : Below 256 src) {r r′ : ℕ} {exit exit′ : List ℕ} (small : r < 2 ^ 32) where
+  pub demand2-decrypts-received : Answers (encryptBookCall key way src out) out r exit → length out′ ≡ length src
+      → Answers (decryptBookCall key way′ exit out′) out′ r′ exit′ → (r′ ≡ r) × (exit′ ≡ src)
+  demand2-decrypts-received a e = told (demand2-decrypts key bytes way way′ permitted src out out′ below (accepts (readable-encryptBook key way src out) a small) e)
+
+  pub demand2-encrypts-received : Answers (decryptBookCall key way src out) out r exit → length out′ ≡ length src
+      → Answers (encryptBookCall key way′ exit out′) out′ r′ exit′ → (r′ ≡ r) × (exit′ ≡ src)
+  demand2-encrypts-received a e = told (demand2-encrypts key bytes way way′ permitted src out out′ below (accepts (readable-decryptBook key way src out) a small) e)
+
+  pub demand2-block-decrypts-received : Answers (encryptBlockCall key way src out) out r exit → length out′ ≡ 16
+      → Answers (decryptBlockCall key way′ exit out′) out′ r′ exit′ → (r′ ≡ r) × (exit′ ≡ src)
+  demand2-block-decrypts-received a e = told (demand2-block-decrypts key bytes way way′ permitted src out out′ below e (accepts (readable-encryptBlock key way src out) a small))
+
+  pub demand2-block-encrypts-received : Answers (decryptBlockCall key way src out) out r exit → length out′ ≡ 16
+      → Answers (encryptBlockCall key way′ exit out′) out′ r′ exit′ → (r′ ≡ r) × (exit′ ≡ src)
+  demand2-block-encrypts-received a e = told (demand2-block-encrypts key bytes way way′ permitted src out out′ below e (accepts (readable-decryptBlock key way src out) a small))
+
+-- ---- demand 3: the two lent outputs at exit, where both numbers are below 2 ^ 32
+
+pub demand3-received : (key : List ℕ) → Below 256 key → (way way′ : ℕ) (a b out out′ : List ℕ) → Below 256 a → Below 256 b → {r r′ : ℕ} {x y : List ℕ}
+    → Answers (encryptBookCall key way a out) out r x → r < 2 ^ 32
+    → Answers (encryptBookCall key way′ b out′) out′ r′ y → r′ < 2 ^ 32 → EncryptedAlike key a b x y
+demand3-received key bytes way way′ a b out out′ ra rb pa ha pb hb =
+    rw (pa .output, pb .output)
+    (demand3 key bytes way way′ a b out out′ ra rb
+    (accepted-outcome (accepts (readable-encryptBook key way a out) pa ha))
+    (accepted-outcome (accepts (readable-encryptBook key way′ b out′) pb hb)))
+  where
+    accepted-outcome : {o : Outcome} {n : ℕ} {bs : List ℕ} → o ≡ accepted n bs → Accepted o
+    accepted-outcome e = subst Accepted (sym e) (accepting _ _)

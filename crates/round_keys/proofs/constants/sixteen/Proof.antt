@@ -1,0 +1,12 @@
+-- `round_keys::constants::sixteen` meets its contract: the rule is computed for each word.
+use mathlib.Core.Path.{refl}
+use Rattle.round_keys.specs.Tests.{testedConstants}
+use Rattle.round_keys.proofs.constants.sixteen.Statement.{statement}
+use Rattle.round_keys.proofs.constants.sixteen.Tie as tie
+
+returns : tie.Need-returns
+unfolding testedConstants
+returns c = refl
+
+pub sixteen-spec : {M : Type 1} → statement M
+sixteen-spec = tie.close (tie.spec returns)

@@ -1,0 +1,63 @@
+-- `sheet_recode::write_fours` meets its contract: `left` records are to come, the first of them at `at`.
+use mathlib.Core.Path.{sym, _∙_}
+use mathlib.Core.Bool.{true}
+use borrow.Author.Needs.{needs}
+use Rattle.clefia_laws.specs.DigitLaws.{below-all}
+use Rattle.chain.specs.ChainLaws.{Chained, chain-start}
+use Rattle.sheet_recode.proofs.write_fours.Statement.{statement}
+use Rattle.sheet_recode.proofs.write_fours.Tie as tie
+
+abbrev Inv-loop : tie.InvT-loop
+Inv-loop words bytes w entry body out₀ left₀ previous₀ at₀ out left previous at = Chained true w entry body out at left previous
+
+abbrev μ-loop : tie.MeasureT-loop
+μ-loop words bytes w entry body out₀ left₀ previous₀ at₀ out left previous at = left
+
+half-requires : tie.Need-half-requires Inv-loop μ-loop
+half-requires c κs = search needs
+
+new-requires : tie.Need-new-requires Inv-loop μ-loop
+new-requires c κs = search needs
+
+loop-holds : tie.Need-loop-holds Inv-loop μ-loop
+loop-holds c =
+    let s : tie.Start Inv-loop μ-loop = c .before .before .before .before .before .before .before in
+    rw (c .before .before .half .ensures, c .before .new .ensures)
+    (chain-start true (s .args .w .now) (s .args .body .now) (below-all (s .args .entry .now) (λ j k. c .before .before .before .before .before .shared-slice-known2 .given j .fits)) (s .pre .1 .0 .1) (s .pre .1 .1 .1))
+
+write-four-requires : tie.Need-write-four-requires Inv-loop μ-loop
+write-four-requires c κs = search needs
+
+add-at : tie.Need-add-at Inv-loop μ-loop
+add-at c = search needs
+
+loop-less : tie.Need-loop-less Inv-loop μ-loop
+loop-less c = search needs
+
+loop-again : tie.Need-loop-again Inv-loop μ-loop
+loop-again c =
+    let a : tie.At-loop Inv-loop μ-loop = c .before .before .before .before .before in
+    let s : tie.Start Inv-loop μ-loop = a .before .before .before .before .before .before .before .before in
+    c .before .before .write-four .ensures (s .args .entry .now) (a .loop .left) (s .pre .1 .1 .0) (a .loop .inv) (c .before .before .before .before .loop-test .taken)
+
+same-length : tie.Need-same-length Inv-loop μ-loop
+same-length c = c .before .loop .inv .size ∙ sym (c .before .before .before .before .before .before .before .before .before .pre .1 .1 .1)
+
+returns : tie.Need-returns Inv-loop μ-loop
+returns c = c .before .loop .inv
+
+pub write-fours-spec : {M : Type 1} → statement M
+write-fours-spec =
+    tie.close
+    (tie.spec
+    Inv-loop
+    μ-loop
+    half-requires
+    new-requires
+    loop-holds
+    write-four-requires
+    add-at
+    loop-less
+    loop-again
+    same-length
+    returns)

@@ -1,0 +1,80 @@
+-- `sheet_records::four_hold` meets its contract: one record after the other.
+use Prim.Native.Nat.{_+_, _-_, _^_}
+use mathlib.Core.Path.{_≡_, refl, ap}
+use native.Mathlib.Omega.{arith}
+use Rattle.clefia_spec.specs.Words.{Below}
+use Rattle.clefia_laws.specs.DigitLaws.{below-all}
+use Rattle.network_rows.specs.declared.FourRows.{FourRows}
+use Rattle.sheet_records.specs.Looked.{record-turn}
+use borrow.Author.Needs.{needs}
+use Rattle.sheet_records.proofs.four_hold.Statement.{statement}
+use Rattle.sheet_records.proofs.four_hold.Tie as tie
+
+decrypt-four-requires : tie.Need-decrypt-four-requires
+decrypt-four-requires c κs = search needs
+
+add-second : tie.Need-add-second
+add-second c = search needs
+
+add-third : tie.Need-add-third
+add-third c = search needs
+
+clear-holds-requires : tie.Need-clear-holds-requires
+clear-holds-requires c κs = search needs
+
+load-requires : tie.Need-load-requires
+load-requires c κs = search needs
+
+clear-holds-requires-2 : tie.Need-clear-holds-requires-2
+clear-holds-requires-2 c κs = search needs
+
+load-requires-2 : tie.Need-load-requires-2
+load-requires-2 c κs = search needs
+
+clear-holds-requires-3 : tie.Need-clear-holds-requires-3
+clear-holds-requires-3 c κs = search needs
+
+load-requires-3 : tie.Need-load-requires-3
+load-requires-3 c κs = search needs
+
+clear-holds-requires-4 : tie.Need-clear-holds-requires-4
+clear-holds-requires-4 c κs = search needs
+
+all-requires : tie.Need-all-requires
+all-requires c κs = search needs
+
+returns : tie.Need-returns
+returns c e left known size o h =
+    let s : tie.Start = c .before .before .before .before .before .before .before .before .before .before .before .before .before .before .before in
+    let at = s .args .at in
+    let words : Below (2 ^ 32) (s .args .w .now) = below-all (s .args .w .now) (λ j k. c .before .before .before .before .before .before .before .before .before .before .before .before .before .before .shared-slice-known .given j .fits) in
+    let bytes : Below 256 (s .args .body .now) = below-all (s .args .body .now) (λ j k. c .before .before .before .before .before .before .before .before .before .before .before .before .before .shared-slice-known2 .given j .fits) in
+    let d : tie.After-decrypt-four = c .before .before .before .before .before .before .before .before .before .before .before .before in
+    let p : at + 64 ≡ at + 16 + 16 + 16 + 16 = omega arith in
+    let q : at + 48 ≡ at + 16 + 16 + 16 = omega arith in
+    let n : left - 4 ≡ left - 1 - 1 - 1 - 1 = omega arith in
+    rw (c .all .ensures, p, q, n)
+    (record-turn words bytes size
+    (record-turn words bytes size
+    (record-turn words bytes size
+    (record-turn words bytes size o (omega arith) (ap (λ (x : FourRows). x .a) (d .decrypt-four .ensures)) refl (c .before .before .before .before .before .before .before .clear-holds .ensures e known))
+    (omega arith) (ap (λ (x : FourRows). x .b) (d .decrypt-four .ensures)) (c .before .before .before .before .before .before .load .ensures) (c .before .before .before .before .before .clear-holds2 .ensures e known))
+    (omega arith) (ap (λ (x : FourRows). x .c) (d .decrypt-four .ensures)) (c .before .before .before .before .load2 .ensures) (c .before .before .before .clear-holds3 .ensures e known))
+    (omega arith) (ap (λ (x : FourRows). x .d) (d .decrypt-four .ensures)) (c .before .before .load3 .ensures) (c .before .clear-holds4 .ensures e known))
+
+pub four-hold-spec : {M : Type 1} → statement M
+four-hold-spec =
+    tie.close
+    (tie.spec
+    decrypt-four-requires
+    add-second
+    add-third
+    clear-holds-requires
+    load-requires
+    clear-holds-requires-2
+    load-requires-2
+    clear-holds-requires-3
+    load-requires-3
+    clear-holds-requires-4
+    all-requires
+    returns)

@@ -1,0 +1,130 @@
+// Check 11 of one encrypted sheet: its records decrypted, four at a time by word tables, and only looked at. Each is decrypted by itself and added to the
+// encrypted one before it, which is read from the body again. `entry` is the sheet's entry.
+ghost use mathlib.Core.Path.{_≡_};
+ghost use mathlib.Core.List.{List};
+ghost use Prim.Native.Nat.{ℕ, _+_, _-_, _*_, _≤_};
+ghost use lib.ListN.{length, drop};
+ghost use Rattle.clefia_spec.specs.Words.{bytesOf, wordsOf, xors};
+ghost use Rattle.clefia_spec.specs.Block.{decryptUnder};
+ghost use Rattle.planbook_spec.specs.Book.{count, recordHolds, sheetHolds, decryptBody};
+ghost use Rattle.ffunction.specs.Tables.{Lent};
+ghost use Rattle.entries.specs.Entry.{sheetOf};
+ghost use Rattle.chain.specs.ChainLaws.{Decrypted};
+use block_rows::decrypt_four;
+use chain::Chain;
+use entries::entry;
+use entries::entry::Sheet;
+use entries::record;
+
+// Whether a decrypted block t, added to the encrypted one before it, is a record that holds.
+fn clear_holds(sheet: Sheet, previous: [u32; 4], t: [u32; 4]) -> bool
+    ensures { λ r. ⌜ ((e : List ℕ) → sheet ≡ sheetOf e → r ≡ recordHolds e (bytesOf (xors previous t))) ⌝ }
+{
+    record::record_holds(sheet, rows::xors4(previous, t))
+}
+
+// How often four of n records go at once: by word tables as long as there are four; other tables leave nothing to wait for, and there never.
+fn fours(words: &[[u32; 256]], n: usize) -> usize
+    ensures { λ r. ⌜ 4 * r ≤ n ⌝ }
+{
+    if words.len() == 8 { n / 4 } else { 0 }
+}
+
+// Whether the records so far hold and the four that stand at `at` too; `previous` went before them.
+fn four_hold(
+    held: bool,
+    words: &[[u32; 256]],
+    bytes: &[[u8; 256]],
+    w: &[u32],
+    sheet: Sheet,
+    body: &[u8],
+    at: usize,
+    previous: [u32; 4],
+) -> bool
+    requires { ⌜ Lent (now words) (now bytes) ⌝ }
+    requires { ⌜ (4 ≤ length (now w)) × (at + 64 ≤ length (now body)) ⌝ }
+    ensures { λ r. ⌜ ((e : List ℕ) (left : ℕ) → sheet ≡ sheetOf e → length (now (body .entry)) ≡ 16 * count e → Decrypted held (now (w .entry)) e (now (body .entry)) at left previous → 4 ≤ left → Decrypted r (now (w .entry)) e (now (body .entry)) (at + 64) (left - 4) (wordsOf 4 (drop (at + 48) (now (body .entry))))) ⌝ }
+{
+    let t = decrypt_four(words, bytes, w, body, at);
+    let a = t.a;
+    let b = t.b;
+    let c = t.c;
+    let d = t.d;
+    let second = at + 16;
+    let third = second + 16;
+    let p = clear_holds(sheet, previous, a);
+    let q = clear_holds(sheet, rows::load(body, at), b);
+    let r = clear_holds(sheet, rows::load(body, second), c);
+    let s = clear_holds(sheet, rows::load(body, third), d);
+    entry::all(held, p, q, r, s)
+}
+
+// Whether the records so far hold and the last `n` too, which stand from `from` on, one by one; `before` went before them.
+fn rest_holds(
+    held: bool,
+    words: &[[u32; 256]],
+    bytes: &[[u8; 256]],
+    w: &[u32],
+    entry: &[u8],
+    body: &[u8],
+    from: usize,
+    n: usize,
+    before: [u32; 4],
+) -> bool
+    requires { ⌜ Lent (now words) (now bytes) ⌝ }
+    requires { ⌜ (4 ≤ length (now w)) × (length (now entry) ≡ 24) ⌝ }
+    requires { ⌜ length (now body) ≡ 16 * count (now entry) ⌝ }
+    requires { ⌜ Decrypted held (now w) (now entry) (now body) from n before ⌝ }
+    ensures { λ r. ⌜ r ≡ sheetHolds (now (entry .entry)) (decryptBody (decryptUnder (now (w .entry))) (now (entry .entry)) (now (body .entry))) ⌝ }
+{
+    let sheet = entry::read_sheet(entry);
+    let mut chain = Chain { previous: before };
+    let mut left = n;
+    let mut at = from;
+    while 0 < left {
+        let end = at + 16;
+        let step = chain.decrypt(words, bytes, w, rows::load(body, at));
+        let clear = step.block;
+        if !record::record_holds(sheet, clear) {
+            return false;
+        }
+        let next = step.next;
+        chain = next;
+        left -= 1;
+        at = end;
+    }
+    held
+}
+
+// Every record of an encrypted body, decrypted and dropped again: nothing is written. By word tables they go four at a time as long as there are four, and no
+// four ends the loop: with one way out more the compiler would take the rest for seldom, and keep its rounds out of line (DECISIONS).
+pub fn decrypted_sheet_holds(
+    words: &[[u32; 256]],
+    bytes: &[[u8; 256]],
+    w: &[u32],
+    entry: &[u8],
+    body: &[u8],
+) -> bool
+    requires { ⌜ Lent (now words) (now bytes) ⌝ }
+    requires { ⌜ (4 ≤ length (now w)) × (length (now entry) ≡ 24) ⌝ }
+    requires { ⌜ length (now body) ≡ 16 * count (now entry) ⌝ }
+    ensures { λ r. ⌜ r ≡ sheetHolds (now (entry .entry)) (decryptBody (decryptUnder (now (w .entry))) (now (entry .entry)) (now (body .entry))) ⌝ }
+{
+    let sheet = entry::read_sheet(entry);
+    let chain = Chain::new(entry);
+    let mut previous = chain.previous;
+    let mut left = sheet.count;
+    let mut at = 0;
+    let mut holds = true;
+    let mut fours = fours(words, left);
+    while 0 < fours {
+        let more = four_hold(holds, words, bytes, w, sheet, body, at, previous);
+        holds = more;
+        let next = rows::load(body, at + 48);
+        previous = next;
+        left -= 4;
+        at += 64;
+        fours -= 1;
+    }
+    rest_holds(holds, words, bytes, w, entry, body, at, left, previous)
+}
