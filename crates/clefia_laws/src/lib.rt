@@ -1,1 +1,1 @@
-// The specification of CLEFIA: definitions and laws only, in specs/. There is no code here.
+// Laws of CLEFIA's definitions, in specs/. There is no code here.

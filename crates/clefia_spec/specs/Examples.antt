@@ -2,9 +2,9 @@
 -- marked cases do not: rotations, DoubleSwap, the order of constants, keys and halves, whitening, bytes and words. (One printed round key breaks
 -- the paper's own rules and stands corrected: RK15 of the 24-byte key is 92cfc98e.)
 use Prim.Native.Nat.{ℕ}
-use mathlib.Core.List.{List, [], _∷_}
+use mathlib.Core.List.{List, [], _∷_, _++_}
 use mathlib.Core.Path.{refl}
-use lib.ListN.{take, replicate}
+use lib.ListN.{length, getD, take, replicate}
 use Rattle.clefia_spec.specs.Words.{complement, rotate, fromDigits, toDigits, digitsOf, numbersOf, bytesOf, fourAt, xors}
 use Rattle.clefia_spec.specs.Constants.{divideByZ, evenConstant, oddConstant, constantsFrom, firstT, constants}
 use Rattle.clefia_spec.specs.Field.{double, addProduct, product, squares, inverse}
@@ -37,9 +37,20 @@ expandedKeys =
     0x521213ce ∷ 0x4f1f59d8 ∷ 0xc13624f6 ∷ 0xee91f6a4 ∷ 0x17f68fde ∷ 0xf6c360a9 ∷ 0x6288bc72 ∷ 0xc0ad856b ∷ [])
     ∷ []
 
--- WK, RK0 and RK1 of the 16-byte key: six words that all differ.
+-- How many constants there are, and the last two (tables 2.8 to 2.12).
+pub constantsExamples : List Case
+constantsExamples =
+    (length (constants 16) ∷ getD (constants 16) 58 0 ∷ getD (constants 16) 59 0 ∷ [] gives 60 ∷ 0x1052b098 ∷ 0x7c73b3a7 ∷ [])
+    ∷ (length (constants 24) ∷ getD (constants 24) 82 0 ∷ getD (constants 24) 83 0 ∷ [] gives 84 ∷ 0x3e51ec9e ∷ 0x5270b089 ∷ [])
+    ∷ (length (constants 32) ∷ getD (constants 32) 90 0 ∷ getD (constants 32) 91 0 ∷ [] gives 92 ∷ 0x04cf99a2 ∷ 0x68ee2eb3 ∷ [])
+    ∷ []
+
+-- WK, RK0 and RK1 of the 16-byte key: six words that all differ. Two rounds have RK2 and RK3 too.
 abbrev oneRound : List ℕ
 oneRound = 0xffeeddcc ∷ 0xbbaa9988 ∷ 0x77665544 ∷ 0x33221100 ∷ 0xf3e6cef9 ∷ 0x8df75e38 ∷ []
+
+abbrev twoRounds : List ℕ
+twoRounds = oneRound ++ 0x41c06256 ∷ 0x640ac51b ∷ []
 
 -- A block and what one round makes of it: the paper's first round, rotated back, with the last two whitening words added.
 abbrev pub clearBlock : List ℕ
@@ -52,12 +63,17 @@ pub blockExamples : List Case
 blockExamples =
     (encryptUnder oneRound clearBlock gives roundedBlock)
     ∷ (decryptUnder oneRound roundedBlock gives clearBlock)
+    ∷ (decryptUnder twoRounds (encryptUnder twoRounds clearBlock) gives clearBlock)
     ∷ (roundCount (replicate 40 0) ∷ roundCount (replicate 48 0) ∷ roundCount (replicate 56 0) ∷ [] gives 18 ∷ 22 ∷ 26 ∷ [])
     ∷ []
 
 pub blockExamples-hold : AllHold blockExamples
 unfolding blockExamples allSame fromDigits toDigits digitsOf numbersOf xors double addProduct product squares inverse ss0 ss1 ss2 ss3 s0 s1 bitOf sumOfBits affine fRows gRows m0 m1 entry rowTimes matrixTimes substitute f0 f1 feistel rotateBranches rounds undoRounds network inverseNetwork whiten roundCount encryptWords decryptWords encryptUnder decryptUnder
 blockExamples-hold = computed blockExamples refl
+
+pub constantsExamples-hold : AllHold constantsExamples
+unfolding constantsExamples allSame complement rotate divideByZ evenConstant oddConstant constantsFrom firstT constants
+constantsExamples-hold = computed constantsExamples refl
 
 pub expandedKeys-hold : AllHold expandedKeys
 unfolding expandedKeys allSame complement rotate fromDigits toDigits digitsOf numbersOf fourAt xors divideByZ evenConstant oddConstant constantsFrom firstT constants double addProduct product squares inverse ss0 ss1 ss2 ss3 s0 s1 bitOf sumOfBits affine fRows gRows m0 m1 entry rowTimes matrixTimes substitute f0 f1 feistel rotateBranches rounds network bitRange doubleSwapBits doubleSwap stepKeys roundKeys expandShort expandLong extendKey expandKeyWords expandKey

@@ -1,1 +1,1 @@
-// The specification of CLEFIA: definitions and laws only, in specs/. There is no code here.
+// The specification of CLEFIA: definitions and computed cases, in specs/. There is no code here.

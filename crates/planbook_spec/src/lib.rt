@@ -1,1 +1,1 @@
-// What the calls answer: definitions and laws only, in specs/. There is no code here.
+// What the calls answer: definitions and computed cases, in specs/. There is no code here.
