@@ -26,7 +26,16 @@ fn perform_by(
         return perform(task, &word_tables::all(), &[], key, w, iv, src, out);
     }
     if way == 1 {
-        return perform(task, &[], &byte_tables::byte_tables(), key, w, iv, src, out);
+        return perform(
+            task,
+            &[],
+            &tables::boxes::byte_tables(),
+            key,
+            w,
+            iv,
+            src,
+            out,
+        );
     }
     perform(task, &[], &[], key, w, iv, src, out)
 }

@@ -2,7 +2,7 @@
 ghost use Rattle.planbook_spec.specs.Checks.{constantsCall};
 ghost use Rattle.answer.specs.Answer.{Given};
 use answer::Answer;
-use round_keys::constants;
+use tables::constants;
 
 pub fn constants(key_length: u64, out: &mut [u8]) -> Answer
     ensures { λ r. ⌜ Given (constantsCall «key_length» (now (out .entry))) (now (out .entry)) r (now (out .exit)) ⌝ }

@@ -1,6 +1,4 @@
-// The parts of the key schedule: the constants, DoubleSwap, and the round keys, four words a step.
-pub mod constants;
-
+// DoubleSwap, and the round keys of the key schedule, four words a step.
 ghost use mathlib.Core.Path.{_≡_};
 ghost use mathlib.Core.List.{[], _∷_, _++_};
 ghost use Prim.Native.Nat.{_+_, _*_, _%_, _≤_};

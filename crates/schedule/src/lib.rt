@@ -8,8 +8,8 @@ ghost use Rattle.ffunction.specs.Tables.{Lent};
 use network8::first_half;
 use network8::joined;
 use network8::second_half;
-use round_keys::constants;
 use round_keys::round_keys;
+use tables::constants;
 
 // A key of four words.
 fn expand_short(words: &[[u32; 256]], bytes: &[[u8; 256]], k: [u32; 4], w: &mut [u32])

@@ -1,9 +1,9 @@
--- `byte_tables::byte_tables` meets its contract.
+-- `tables::boxes::byte_tables` meets its contract.
 use Rattle.gf256.specs.Values.{values}
 use Rattle.sbox.specs.Boxes.{byteTables}
 use borrow.Author.Needs.{needs}
-use Rattle.byte_tables.proofs.byte_tables.Statement.{statement}
-use Rattle.byte_tables.proofs.byte_tables.Tie as tie
+use Rattle.tables.proofs.boxes.byte_tables.Statement.{statement}
+use Rattle.tables.proofs.boxes.byte_tables.Tie as tie
 
 table0-requires : tie.Need-table0-requires
 table0-requires c κs = search needs

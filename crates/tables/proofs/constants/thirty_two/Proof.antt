@@ -1,0 +1,12 @@
+-- `tables::constants::thirty_two` meets its contract: the rule is computed for each word.
+use mathlib.Core.Path.{refl}
+use Rattle.tables.specs.Tests.{testedConstants}
+use Rattle.tables.proofs.constants.thirty_two.Statement.{statement}
+use Rattle.tables.proofs.constants.thirty_two.Tie as tie
+
+returns : tie.Need-returns
+unfolding testedConstants
+returns c = refl
+
+pub thirty-two-spec : {M : Type 1} → statement M
+thirty-two-spec = tie.close (tie.spec returns)

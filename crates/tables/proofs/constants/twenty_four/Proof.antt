@@ -1,0 +1,12 @@
+-- `tables::constants::twenty_four` meets its contract: the rule is computed for each word.
+use mathlib.Core.Path.{refl}
+use Rattle.tables.specs.Tests.{testedConstants}
+use Rattle.tables.proofs.constants.twenty_four.Statement.{statement}
+use Rattle.tables.proofs.constants.twenty_four.Tie as tie
+
+returns : tie.Need-returns
+unfolding testedConstants
+returns c = refl
+
+pub twenty-four-spec : {M : Type 1} → statement M
+twenty-four-spec = tie.close (tie.spec returns)
