@@ -1,3 +1,4 @@
-// What the programs of the edges start from: clear books, and lent outputs that show whether a call wrote.
+// What the program of the edges is written with: its script, the books, and lent outputs that show whether a call wrote.
 pub mod books;
 pub mod outputs;
+pub mod script;

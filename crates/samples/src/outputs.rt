@@ -1,7 +1,6 @@
 // Outputs to lend: every byte holds one value before a call, so that a refused call that wrote would show.
 use console::say;
 use console::say_answer;
-use console::say_number;
 ghost use Rattle.io.specs.Counts.{Counts};
 
 // What a lent output holds before each call.
@@ -26,18 +25,7 @@ fn is_untouched(output: &[u8]) -> bool {
     true
 }
 
-// A line's start, the call, the case and the way, and the output made ready.
-pub fn begin(call: &[u8], case: &[u8], way: u64, output: &mut [u8]) {
-    say(call);
-    say(b", ");
-    say(case);
-    say(b", way ");
-    say_number(way);
-    say(b": ");
-    fill(output);
-}
-
-// The rest of the line: the check, the count, and whether the output was written.
+// The rest of a line: the check, the count, and whether the output was written.
 pub fn end(answer: u64, output: &[u8]) {
     say_answer(answer);
     if is_untouched(output) {
