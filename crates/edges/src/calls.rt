@@ -1,10 +1,4 @@
 // The exported calls, each reported in one line: the call, the case, the way, the check, the count, and whether the lent output was written.
-use crate::state::CASE;
-use crate::state::CASE_END;
-use crate::state::KEY;
-use crate::state::LENGTH;
-use crate::state::SIZE;
-use crate::state::WAY;
 use console::say;
 use console::say_number;
 use planbook::planbook_constants;
@@ -17,6 +11,12 @@ use samples::outputs::end;
 use samples::outputs::fill;
 use samples::outputs::within;
 use samples::script::say_text;
+use samples::state::CASE;
+use samples::state::CASE_END;
+use samples::state::KEY;
+use samples::state::LENGTH;
+use samples::state::SIZE;
+use samples::state::WAY;
 
 // A call by its number in the list of commands.
 fn call(number: usize, key: &[u8], length: u64, way: u64, input: &[u8], output: &mut [u8]) -> u64 {
@@ -73,7 +73,7 @@ pub fn run_call(
     let n = within(state[SIZE], output);
     if number == 7 {
         planbook_encrypt_book(&key[..k], state[WAY] as u64, &book[..b], &mut output[..n]);
-    } else {
+    } else if 0 < number && number < 7 {
         report(
             number,
             name,

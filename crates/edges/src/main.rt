@@ -4,11 +4,46 @@
 // The file stdout comes from the rules in docs/FORMAT.md and never from this program: a script of its own judged each case by them, and the
 // few encrypted bytes are those of another CLEFIA.
 mod calls;
-mod commands;
-mod state;
 
+use calls::run_call;
 use console::say;
 use libc::STDIN_FILENO;
+use samples::commands::command_of;
+use samples::commands::edit;
+use samples::commands::tell;
+use samples::script::COMMAND;
+use samples::script::NAME;
+use samples::script::find_end;
+use samples::script::find_next;
+use samples::script::numbers;
+use samples::state::place_after;
+use samples::state::set;
+ghost use Prim.Native.Nat.{_<_};
+ghost use lib.ListN.{length};
+
+// Runs the command that begins at a place, and answers where the next one begins. Each function does nothing at commands that are not its own.
+fn run_command(
+    script: &[u8],
+    from: usize,
+    state: &mut [usize; 7],
+    key: &[u8],
+    book: &mut [u8],
+    kept: &mut [u8],
+    output: &mut [u8],
+) -> usize
+    requires { ⌜ from < length (now script) ⌝ }
+{
+    let colon = find_end(NAME, script, from);
+    let end = find_end(COMMAND, script, colon);
+    let name = &script[from..colon];
+    let command = command_of(name);
+    let n = numbers(&script[colon..end]);
+    set(command, n[0], colon, end, state);
+    edit(command, n, state, book, kept, output);
+    tell(command, name, script, colon, end, state, book, kept, output);
+    run_call(command, name, script, state, key, book, output);
+    find_next(script, place_after(command, end, state))
+}
 
 fn run(script: &[u8], book: &mut [u8], kept: &mut [u8], output: &mut [u8]) {
     // The 32-byte key of the cipher's test vectors, whose shorter keys are its first bytes, and one byte more.
@@ -21,7 +56,7 @@ fn run(script: &[u8], book: &mut [u8], kept: &mut [u8], output: &mut [u8]) {
         if script.len() <= at {
             return;
         }
-        at = commands::run_command(script, at, &mut numbers, key, book, kept, output);
+        at = run_command(script, at, &mut numbers, key, book, kept, output);
         left -= 1;
     }
     say(b"too many commands\n");
