@@ -8,55 +8,25 @@ mod calls;
 use calls::run_call;
 use console::say;
 use libc::STDIN_FILENO;
-use samples::commands::command_of;
-use samples::commands::edit;
-use samples::commands::tell;
-use samples::script::COMMAND;
-use samples::script::NAME;
-use samples::script::find_end;
-use samples::script::find_next;
-use samples::script::numbers;
-use samples::state::place_after;
-use samples::state::set;
-ghost use Prim.Native.Nat.{_<_};
-ghost use lib.ListN.{length};
-
-// Runs the command that begins at a place, and answers where the next one begins. Each function does nothing at commands that are not its own.
-fn run_command(
-    script: &[u8],
-    from: usize,
-    state: &mut [usize; 7],
-    key: &[u8],
-    book: &mut [u8],
-    kept: &mut [u8],
-    output: &mut [u8],
-) -> usize
-    requires { ⌜ from < length (now script) ⌝ }
-{
-    let colon = find_end(NAME, script, from);
-    let end = find_end(COMMAND, script, colon);
-    let name = &script[from..colon];
-    let command = command_of(name);
-    let n = numbers(&script[colon..end]);
-    set(command, n[0], colon, end, state);
-    edit(command, n, state, book, kept, output);
-    tell(command, name, script, colon, end, state, book, kept, output);
-    run_call(command, name, script, state, key, book, output);
-    find_next(script, place_after(command, end, state))
-}
+use samples::commands;
+use samples::script::command_at;
+use samples::state::next;
 
 fn run(script: &[u8], book: &mut [u8], kept: &mut [u8], output: &mut [u8]) {
     // The 32-byte key of the cipher's test vectors, whose shorter keys are its first bytes, and one byte more.
     let key: &[u8] =
         b"\xff\xee\xdd\xcc\xbb\xaa\x99\x88\x77\x66\x55\x44\x33\x22\x11\x00\xf0\xe0\xd0\xc0\xb0\xa0\x90\x80\x70\x60\x50\x40\x30\x20\x10\x00\x00";
-    let mut numbers = [0usize; 7];
+    let mut state = [0usize; 7];
     let mut at: usize = 0;
     let mut left: u64 = 1000000;
     while 0 < left {
         if script.len() <= at {
             return;
         }
-        at = run_command(script, at, &mut numbers, key, book, kept, output);
+        let command = command_at(script, at);
+        commands::run(command, script, &mut state, book, kept, output);
+        run_call(command, script, &state, key, book, output);
+        at = next(script, command, &mut state);
         left -= 1;
     }
     say(b"too many commands\n");

@@ -14,10 +14,10 @@ pub fn flip(book: &mut [u8], at: usize, change: u8) {
 }
 
 // A word of a sheet's entry. The start block is such that the sheet's first record, added to it, is the plaintext of the cipher's test vectors.
-fn entry_word(trial: u64, count: u16, place: usize) -> u64 {
+fn entry_word(trial: usize, count: usize, place: usize) -> usize {
     match place {
         0 => trial,
-        1 => count as u64 * 65536,
+        1 => count % 65536 * 65536,
         2 => trial ^ 0x00010203,
         3 => 0x04050606,
         4 => 0x09090a0b,
@@ -26,8 +26,8 @@ fn entry_word(trial: u64, count: u16, place: usize) -> u64 {
 }
 
 // A word of the record of a number that counts from 0: replicates 1 to 4 in turn, row and column the number.
-fn record_word(trial: u64, number: usize, place: usize) -> u64 {
-    let n = number as u64 % 65536;
+fn record_word(trial: usize, number: usize, place: usize) -> usize {
+    let n = number % 65536;
     match place {
         0 => trial,
         1 => n + 1,
@@ -36,39 +36,43 @@ fn record_word(trial: u64, number: usize, place: usize) -> u64 {
     }
 }
 
+// The trial of a sheet that counts from 0.
+fn trial_of(first: usize, sheet: usize) -> usize {
+    first % 4294967296 + sheet % 65536
+}
+
 // A word of the bodies. Past the last sheet it is 0.
-fn body_word(first: u32, sheets: u16, each: u16, at: usize) -> u64 {
-    let words = 4 * (each as usize);
+fn body_word(first: usize, sheets: usize, each: usize, at: usize) -> usize {
+    let words = each % 65536 * 4;
     if words == 0 {
         return 0;
     }
     let sheet = at / words;
-    if sheets as usize <= sheet {
+    if sheets <= sheet {
         return 0;
     }
-    record_word(first as u64 + sheet as u64, at % words / 4, at % 4)
+    record_word(trial_of(first, sheet), at % words / 4, at % 4)
 }
 
 // A word of a book: one of its head, six of each entry, four of each record.
-fn word(first: u32, sheets: u16, each: u16, last: u16, at: usize) -> u64 {
+fn word(first: usize, sheets: usize, each: usize, last: usize, at: usize) -> usize {
     if at == 0 {
-        return 16777216 + sheets as u64;
+        return 16777216 + sheets % 65536;
     }
     let place = at - 1;
-    let contents = 6 * (sheets as usize);
+    let contents = sheets % 65536 * 6;
     if contents <= place {
         return body_word(first, sheets, each, place - contents);
     }
     let sheet = place / 6;
-    let trial = first as u64 + sheet as u64;
-    if sheet + 1 == sheets as usize {
-        return entry_word(trial, last, place % 6);
+    if sheet + 1 == sheets {
+        return entry_word(trial_of(first, sheet), last, place % 6);
     }
-    entry_word(trial, each, place % 6)
+    entry_word(trial_of(first, sheet), each, place % 6)
 }
 
 // The byte of a word at one of the places 0 to 3.
-fn byte_of(word: u64, place: usize) -> u8 {
+fn byte_of(word: usize, place: usize) -> u8 {
     match place {
         0 => (word / 16777216 % 256) as u8,
         1 => (word / 65536 % 256) as u8,
@@ -78,7 +82,7 @@ fn byte_of(word: u64, place: usize) -> u8 {
 }
 
 // A book whose trials count up from first. Each sheet has as many records as each says, and the last one as many as last says, which is no more.
-pub fn write_book(book: &mut [u8], first: u32, sheets: u16, each: u16, last: u16) {
+pub fn write_book(book: &mut [u8], first: usize, sheets: usize, each: usize, last: usize) {
     let mut i = 0;
     while i < book.len() {
         book[i] = byte_of(word(first, sheets, each, last, i / 4), i % 4);

@@ -4,7 +4,7 @@ ghost use Prim.Native.Nat.{_≤_};
 ghost use mathlib.Core.Path.{_≡_};
 ghost use lib.ListN.{length};
 
-// Where a part of a script ends: a name at what is no letter and no space, a command at a semicolon or at its line's end, a line at its end.
+// Where a part of a script ends: a name at what is no letter and no space, a command at a semicolon or at its line's end.
 pub const NAME: u8 = 0;
 
 pub const COMMAND: u8 = 1;
@@ -18,11 +18,11 @@ fn ends(part: u8, byte: u8) -> bool {
     if part == NAME {
         return byte < b'A' && byte != b' ';
     }
-    part == COMMAND && byte == b';'
+    byte == b';'
 }
 
 // The end of the part that begins at a place.
-pub fn find_end(part: u8, script: &[u8], from: usize) -> usize
+fn find_end(part: u8, script: &[u8], from: usize) -> usize
     requires { ⌜ from ≤ length (now script) ⌝ }
     ensures { λ r. ⌜ (from ≤ r) × (r ≤ length (now (script .entry))) ⌝ }
 {
@@ -37,7 +37,7 @@ pub fn find_end(part: u8, script: &[u8], from: usize) -> usize
 }
 
 // Where the command after one that ends at a place begins: past its end, and past a space.
-pub fn find_next(script: &[u8], end: usize) -> usize {
+pub fn after(script: &[u8], end: usize) -> usize {
     if end < script.len() {
         let next = end + 1;
         if next < script.len() {
@@ -81,7 +81,7 @@ fn place_after(k: usize, byte: u8) -> usize
 }
 
 // The numbers of a text that has a space between them, at most five.
-pub fn numbers(text: &[u8]) -> [usize; 5]
+fn numbers(text: &[u8]) -> [usize; 5]
     ensures { λ r. ⌜ 5 ≡ length r ⌝ }
 {
     let mut found = [0usize; 5];
@@ -96,7 +96,7 @@ pub fn numbers(text: &[u8]) -> [usize; 5]
 }
 
 // The place of a name in a list of names with a comma after each, or the number of names where it is not there.
-pub fn find_name(name: &[u8], names: &[u8]) -> usize {
+fn find_name(name: &[u8], names: &[u8]) -> usize {
     let mut place: usize = 0;
     let mut i = 0;
     let mut from = 0;
@@ -113,14 +113,54 @@ pub fn find_name(name: &[u8], names: &[u8]) -> usize {
     place
 }
 
+// The first is the empty name of an empty line and of a remark. A name that a number follows ends with a space.
+fn number_of(name: &[u8]) -> usize {
+    find_name(
+        name,
+        b",constants,expand key,encrypt block,decrypt block,encrypt book,decrypt book,seal,key ,way ,size ,block ,case,mark,book ,put ,flip ,keep,exchange,say,compare,words,again,",
+    )
+}
+
+// A command: the place of its name in the list of names, its numbers, and where it begins, its name ends and it ends.
+pub struct Command {
+    pub number: usize,
+    pub numbers: [usize; 5],
+    pub from: usize,
+    pub colon: usize,
+    pub end: usize,
+}
+
+// The command that begins at a place.
+pub fn command_at(script: &[u8], from: usize) -> Command
+    requires { ⌜ from ≤ length (now script) ⌝ }
+{
+    let colon = find_end(NAME, script, from);
+    let end = find_end(COMMAND, script, colon);
+    let number = number_of(&script[from..colon]);
+    let numbers = numbers(&script[colon..end]);
+    Command {
+        number,
+        numbers,
+        from,
+        colon,
+        end,
+    }
+}
+
+// Says a part of a script, if the script has it.
+pub fn say_part(script: &[u8], from: usize, to: usize) {
+    if to <= script.len() {
+        if from <= to {
+            console::say(&script[from..to]);
+        }
+    }
+}
+
 // Says the text of a command from its colon to its end, without the colon and the space after it.
 pub fn say_text(script: &[u8], colon: usize, end: usize) {
-    if end <= script.len() {
-        if colon <= end {
-            if 2 <= end - colon {
-                let from = colon + 2;
-                console::say(&script[from..end]);
-            }
+    if colon < end {
+        if 2 <= end - colon {
+            say_part(script, colon + 2, end);
         }
     }
 }

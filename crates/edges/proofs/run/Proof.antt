@@ -6,10 +6,10 @@ use Rattle.edges.proofs.run.Statement.{statement}
 use Rattle.edges.proofs.run.Tie as tie
 
 abbrev Inv-loop : tie.InvT-loop
-Inv-loop script book₀ kept₀ output₀ key numbers₀ at₀ left₀ t10 book kept output numbers at left = (length book ≡ length book₀) × (length kept ≡ length kept₀) × (length output ≡ length output₀)
+Inv-loop script book₀ kept₀ output₀ key state₀ at₀ left₀ t11 book kept output state at left = (length book ≡ length book₀) × (length kept ≡ length kept₀) × (length output ≡ length output₀)
 
 abbrev μ-loop : tie.MeasureT-loop
-μ-loop script book₀ kept₀ output₀ key numbers₀ at₀ left₀ t10 book kept output numbers at left = left
+μ-loop script book₀ kept₀ output₀ key state₀ at₀ left₀ t11 book kept output state at left = left
 
 slice-aggregate-key : tie.Need-slice-aggregate-key Inv-loop μ-loop
 slice-aggregate-key c = search needs
@@ -29,8 +29,17 @@ same-length-3 c = search needs
 returns : tie.Need-returns Inv-loop μ-loop
 returns c = search needs
 
-run-command-requires : tie.Need-run-command-requires Inv-loop μ-loop
-run-command-requires c κs = search needs
+command-at-requires : tie.Need-command-at-requires Inv-loop μ-loop
+command-at-requires c κs = search needs
+
+run-requires : tie.Need-run-requires Inv-loop μ-loop
+run-requires c κs = search needs
+
+run-call-requires : tie.Need-run-call-requires Inv-loop μ-loop
+run-call-requires c κs = search needs
+
+next-requires : tie.Need-next-requires Inv-loop μ-loop
+next-requires c κs = search needs
 
 sub-left : tie.Need-sub-left Inv-loop μ-loop
 sub-left c = search needs
@@ -71,7 +80,10 @@ run-spec =
     same-length-2
     same-length-3
     returns
-    run-command-requires
+    command-at-requires
+    run-requires
+    run-call-requires
+    next-requires
     sub-left
     loop-less
     loop-again
