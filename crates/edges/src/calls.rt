@@ -30,7 +30,7 @@ fn call(number: usize, key: &[u8], length: u64, way: u64, input: &[u8], output: 
 fn report(
     command: Command,
     script: &[u8],
-    state: &[usize; 7],
+    state: &[usize; 8],
     key: &[u8],
     input: &[u8],
     output: &mut [u8],
@@ -52,7 +52,7 @@ fn report(
 pub fn run_call(
     command: Command,
     script: &[u8],
-    state: &[usize; 7],
+    state: &[usize; 8],
     key: &[u8],
     book: &[u8],
     output: &mut [u8],

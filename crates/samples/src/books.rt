@@ -90,13 +90,18 @@ pub fn write_book(book: &mut [u8], first: usize, sheets: usize, each: usize, las
     }
 }
 
-// Exchanges what two books hold.
+// The byte at a place, and 0 past the end.
+fn byte_at(book: &[u8], at: usize) -> u8 {
+    if at < book.len() { book[at] } else { 0 }
+}
+
+// Exchanges what two books of one length hold.
 pub fn exchange(a: &mut [u8], b: &mut [u8]) {
     let mut i = 0;
-    while i < a.len() && i < b.len() {
+    while i < a.len() {
         let x = a[i];
-        a[i] = b[i];
-        b[i] = x;
+        a[i] = byte_at(b, i);
+        put(b, i, x);
         i += 1;
     }
 }

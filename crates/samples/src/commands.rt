@@ -14,25 +14,12 @@ use check::same;
 use console::say;
 use console::say_words;
 
-// A book of as many bytes as the last number says, to be lent with an output of that size.
-fn begin_book(n: [usize; 5], state: &mut [usize; 7], book: &mut [u8]) {
-    state[LENGTH] = n[4];
-    state[SIZE] = n[4];
-    write_book(book, n[0], n[1], n[2], n[3]);
-}
-
 // Commands 14 to 18, which change what the book, the kept bytes and the output hold.
-fn edit(
-    command: Command,
-    state: &mut [usize; 7],
-    book: &mut [u8],
-    kept: &mut [u8],
-    output: &mut [u8],
-) {
+fn edit(command: Command, book: &mut [u8], kept: &mut [u8], output: &mut [u8]) {
     let number = command.number;
     let n = command.numbers;
     match number {
-        14 => begin_book(n, state, book),
+        14 => write_book(book, n[0], n[1], n[2], n[3]),
         15 => put(book, n[0], (n[1] % 256) as u8),
         16 => flip(book, n[0], (n[1] % 256) as u8),
         17 => exchange(kept, output),
@@ -73,7 +60,7 @@ fn pass(script: &[u8], at: usize, end: usize) {
 fn tell(
     command: Command,
     script: &[u8],
-    state: &[usize; 7],
+    state: &[usize; 8],
     book: &[u8],
     kept: &[u8],
     output: &[u8],
@@ -102,12 +89,12 @@ fn tell(
 pub fn run(
     command: Command,
     script: &[u8],
-    state: &mut [usize; 7],
+    state: &mut [usize; 8],
     book: &mut [u8],
     kept: &mut [u8],
     output: &mut [u8],
 ) {
     set(command, state);
-    edit(command, state, book, kept, output);
+    edit(command, book, kept, output);
     tell(command, script, state, book, kept, output);
 }

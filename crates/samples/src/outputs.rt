@@ -33,7 +33,7 @@ fn is_untouched(output: &[u8]) -> bool {
 }
 
 // The start of a line: the call, the case, and the way, which the first call, for constants, does not take. At 'seal', command 7, it says nothing.
-pub fn begin(command: Command, script: &[u8], state: &[usize; 7]) {
+pub fn begin(command: Command, script: &[u8], state: &[usize; 8]) {
     let number = command.number;
     if number == 7 {
         return;

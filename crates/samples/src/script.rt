@@ -1,8 +1,11 @@
 // A script of commands. A command ends at a semicolon or at its line's end. It is a name of letters and spaces, and then numbers or, after a
 // colon, text. A line that begins with # says nothing to the program.
+use crate::outputs::within;
+use libc::STDIN_FILENO;
 ghost use Prim.Native.Nat.{_≤_};
 ghost use mathlib.Core.Path.{_≡_};
 ghost use lib.ListN.{length};
+ghost use Rattle.io.specs.Counts.{Counts};
 
 // Where a part of a script ends: a name at what is no letter and no space, a command at a semicolon or at its line's end.
 pub const NAME: u8 = 0;
@@ -131,9 +134,8 @@ pub struct Command {
 }
 
 // The command that begins at a place.
-pub fn command_at(script: &[u8], from: usize) -> Command
-    requires { ⌜ from ≤ length (now script) ⌝ }
-{
+pub fn command_at(script: &[u8], at: usize) -> Command {
+    let from = within(at, script);
     let colon = find_end(NAME, script, from);
     let end = find_end(COMMAND, script, colon);
     let number = number_of(&script[from..colon]);
@@ -163,4 +165,15 @@ pub fn say_text(script: &[u8], colon: usize, end: usize) {
             say_part(script, colon + 2, end);
         }
     }
+}
+
+// Reads a script from standard input.
+pub fn read_script(space: &mut [u8]) -> usize
+    ensures { λ r. ⌜ Counts r (now (space .exit)) ⌝ }
+{
+    let n = io::read_full(STDIN_FILENO, space);
+    if n == space.len() {
+        console::say(b"script too long\n");
+    }
+    n
 }
