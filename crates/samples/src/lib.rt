@@ -1,3 +1,7 @@
-// What the programs of the edges start from: clear books, and lent outputs that show whether a call wrote.
+// What the program of the edges is written with: its script, the numbers that commands set, the books, lent outputs that show whether a call
+// wrote, and every command but the exported calls.
 pub mod books;
+pub mod commands;
 pub mod outputs;
+pub mod script;
+pub mod state;

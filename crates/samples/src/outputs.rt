@@ -1,4 +1,10 @@
 // Outputs to lend: every byte holds one value before a call, so that a refused call that wrote would show.
+use crate::script::Command;
+use crate::script::say_part;
+use crate::script::say_text;
+use crate::state::CASE;
+use crate::state::CASE_END;
+use crate::state::WAY;
 use console::say;
 use console::say_answer;
 use console::say_number;
@@ -26,19 +32,27 @@ fn is_untouched(output: &[u8]) -> bool {
     true
 }
 
-// A line's start, the call, the case and the way, and the output made ready.
-pub fn begin(call: &[u8], case: &[u8], way: u64, output: &mut [u8]) {
-    say(call);
+// The start of a line: the call, the case, and the way, which the first call, for constants, does not take. At 'seal', command 7, it says nothing.
+pub fn begin(command: Command, script: &[u8], state: &[usize; 8]) {
+    let number = command.number;
+    if number == 7 {
+        return;
+    }
+    say_part(script, command.from, command.colon);
     say(b", ");
-    say(case);
-    say(b", way ");
-    say_number(way);
+    say_text(script, state[CASE], state[CASE_END]);
+    if number != 1 {
+        say(b", way ");
+        say_number(state[WAY] as u64);
+    }
     say(b": ");
-    fill(output);
 }
 
 // The rest of the line: the check, the count, and whether the output was written.
-pub fn end(answer: u64, output: &[u8]) {
+pub fn end(command: Command, answer: u64, output: &[u8]) {
+    if command.number == 7 {
+        return;
+    }
     say_answer(answer);
     if is_untouched(output) {
         say(b", output untouched\n");

@@ -1,0 +1,77 @@
+// The exported calls, each reported in one line: the call, the case, the way, the check, the count, and whether the lent output was written.
+use planbook::planbook_constants;
+use planbook::planbook_decrypt_block;
+use planbook::planbook_decrypt_book;
+use planbook::planbook_encrypt_block;
+use planbook::planbook_encrypt_book;
+use planbook::planbook_expand_key;
+use samples::outputs::begin;
+use samples::outputs::end;
+use samples::outputs::fill;
+use samples::outputs::within;
+use samples::script::Command;
+use samples::state::KEY;
+use samples::state::LENGTH;
+use samples::state::SIZE;
+use samples::state::WAY;
+
+// A call by its command's number. The command 'seal', which is not reported, encrypts a book too.
+fn call(number: usize, key: &[u8], length: u64, way: u64, input: &[u8], output: &mut [u8]) -> u64 {
+    match number {
+        1 => planbook_constants(length, output),
+        2 => planbook_expand_key(key, way, output),
+        3 => planbook_encrypt_block(key, way, input, output),
+        4 => planbook_decrypt_block(key, way, input, output),
+        6 => planbook_decrypt_book(key, way, input, output),
+        _ => planbook_encrypt_book(key, way, input, output),
+    }
+}
+
+fn report(
+    command: Command,
+    script: &[u8],
+    state: &[usize; 8],
+    key: &[u8],
+    input: &[u8],
+    output: &mut [u8],
+) {
+    begin(command, script, state);
+    fill(output);
+    let answer = call(
+        command.number,
+        key,
+        state[KEY] as u64,
+        state[WAY] as u64,
+        input,
+        output,
+    );
+    end(command, answer, output);
+}
+
+// Commands 1 to 7: a call with as many bytes of the key, the book and the output as the state says.
+pub fn run_call(
+    command: Command,
+    script: &[u8],
+    state: &[usize; 8],
+    key: &[u8],
+    book: &[u8],
+    output: &mut [u8],
+) {
+    if command.number == 0 {
+        return;
+    }
+    if 7 < command.number {
+        return;
+    }
+    let k = within(state[KEY], key);
+    let b = within(state[LENGTH], book);
+    let n = within(state[SIZE], output);
+    report(
+        command,
+        script,
+        state,
+        &key[..k],
+        &book[..b],
+        &mut output[..n],
+    );
+}

@@ -1,0 +1,37 @@
+// The edges of the exported calls by running: what each check refuses and what it lets through, books in which two checks fail at once, and
+// books that pass. The cases stand in the file stdin, a script of commands, which says what each command does.
+//
+// The file stdout comes from the rules in docs/FORMAT.md and never from this program: a script of its own judged each case by them, and the
+// few encrypted bytes are those of another CLEFIA.
+mod calls;
+
+use calls::run_call;
+use samples::commands;
+use samples::script::command_at;
+use samples::script::read_script;
+use samples::state::AT;
+use samples::state::step;
+
+fn run(script: &[u8], key: &[u8], book: &mut [u8], kept: &mut [u8], output: &mut [u8]) {
+    let mut state = [0usize; 8];
+    let mut left: u64 = 1000000;
+    while 0 < left {
+        let command = command_at(script, state[AT]);
+        commands::run(command, script, &mut state, book, kept, output);
+        run_call(command, script, &state, key, book, output);
+        left = step(script, command, &mut state, left);
+    }
+}
+
+fn main() {
+    let mut space = [0u8; 65536];
+    let n = read_script(&mut space);
+    // The 32-byte key of the cipher's test vectors, whose shorter keys are its first bytes, and one byte more.
+    run(
+        &space[..n],
+        b"\xff\xee\xdd\xcc\xbb\xaa\x99\x88\x77\x66\x55\x44\x33\x22\x11\x00\xf0\xe0\xd0\xc0\xb0\xa0\x90\x80\x70\x60\x50\x40\x30\x20\x10\x00\x00",
+        &mut [0u8; 65540],
+        &mut [0u8; 65540],
+        &mut [0u8; 65540],
+    );
+}

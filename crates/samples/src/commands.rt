@@ -1,0 +1,100 @@
+// The commands of a script but the exported calls. Each function does nothing at the numbers of other functions.
+use crate::books::exchange;
+use crate::books::flip;
+use crate::books::put;
+use crate::books::write_book;
+use crate::outputs::within;
+use crate::script::Command;
+use crate::script::say_part;
+use crate::script::say_text;
+use crate::state::LENGTH;
+use crate::state::SIZE;
+use crate::state::set;
+use check::same;
+use console::say;
+use console::say_words;
+
+// Commands 14 to 18, which change what the book, the kept bytes and the output hold.
+fn edit(command: Command, book: &mut [u8], kept: &mut [u8], output: &mut [u8]) {
+    let number = command.number;
+    let n = command.numbers;
+    match number {
+        14 => write_book(book, n[0], n[1], n[2], n[3]),
+        15 => put(book, n[0], (n[1] % 256) as u8),
+        16 => flip(book, n[0], (n[1] % 256) as u8),
+        17 => exchange(kept, output),
+        18 => exchange(book, kept),
+        _ => (),
+    }
+}
+
+fn compare(kept: &[u8], output: &[u8], size: usize) {
+    let k = within(size, kept);
+    let n = within(size, output);
+    if same(&kept[..k], &output[..n]) {
+        say(b": the same\n");
+    } else {
+        say(b": another\n");
+    }
+}
+
+// A line that no file stdout has.
+fn say_unknown(script: &[u8], from: usize, end: usize) {
+    say(b"unknown command: ");
+    say_part(script, from, end);
+    say(b"\n");
+}
+
+// The empty name stands before a remark or a line's end, and before nothing else.
+fn pass(script: &[u8], at: usize, end: usize) {
+    if at < script.len() {
+        if script[at] != b'#' {
+            if script[at] != b'\n' {
+                say_unknown(script, at, end);
+            }
+        }
+    }
+}
+
+// Commands 19 to 21, which write, and names that are no command's.
+fn tell(
+    command: Command,
+    script: &[u8],
+    state: &[usize; 8],
+    book: &[u8],
+    kept: &[u8],
+    output: &[u8],
+) {
+    let number = command.number;
+    match number {
+        0 => pass(script, command.colon, command.end),
+        19 => {
+            say_text(script, command.colon, command.end);
+            say(b"\n");
+        }
+        20 => {
+            say_text(script, command.colon, command.end);
+            compare(kept, output, state[SIZE]);
+        }
+        21 => {
+            let b = within(state[LENGTH], book);
+            say_words(&book[..b]);
+        }
+        23 => say_unknown(script, command.from, command.end),
+        _ => (),
+    }
+}
+
+// Any command but the exported calls, at which it does nothing.
+pub fn run(
+    command: Command,
+    script: &[u8],
+    state: &mut [usize; 8],
+    book: &mut [u8],
+    kept: &mut [u8],
+    output: &mut [u8],
+) {
+    set(command, state);
+    edit(command, book, kept, output);
+    tell(command, script, state, book, kept, output);
+}
