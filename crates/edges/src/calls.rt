@@ -9,7 +9,7 @@ use samples::outputs::begin;
 use samples::outputs::end;
 use samples::outputs::fill;
 use samples::outputs::within;
-use samples::script::Command;
+use samples::state::COMMAND;
 use samples::state::KEY;
 use samples::state::LENGTH;
 use samples::state::SIZE;
@@ -27,18 +27,12 @@ fn call(number: usize, key: &[u8], length: u64, way: u64, input: &[u8], output: 
     }
 }
 
-fn report(
-    command: Command,
-    script: &[u8],
-    state: &[usize; 8],
-    key: &[u8],
-    input: &[u8],
-    output: &mut [u8],
-) {
-    begin(command, script, state);
+fn report(script: &[u8], state: &[usize; 16], key: &[u8], input: &[u8], output: &mut [u8]) {
+    let command = state[COMMAND];
+    begin(script, state);
     fill(output);
     let answer = call(
-        command.number,
+        command,
         key,
         state[KEY] as u64,
         state[WAY] as u64,
@@ -49,29 +43,16 @@ fn report(
 }
 
 // Commands 1 to 7: a call with as many bytes of the key, the book and the output as the state says.
-pub fn run_call(
-    command: Command,
-    script: &[u8],
-    state: &[usize; 8],
-    key: &[u8],
-    book: &[u8],
-    output: &mut [u8],
-) {
-    if command.number == 0 {
+pub fn run_call(script: &[u8], state: &[usize; 16], key: &[u8], book: &[u8], output: &mut [u8]) {
+    let command = state[COMMAND];
+    if command == 0 {
         return;
     }
-    if 7 < command.number {
+    if 7 < command {
         return;
     }
     let k = within(state[KEY], key);
     let b = within(state[LENGTH], book);
     let n = within(state[SIZE], output);
-    report(
-        command,
-        script,
-        state,
-        &key[..k],
-        &book[..b],
-        &mut output[..n],
-    );
+    report(script, state, &key[..k], &book[..b], &mut output[..n]);
 }

@@ -7,19 +7,18 @@ mod calls;
 
 use calls::run_call;
 use samples::commands;
-use samples::script::command_at;
+use samples::script::read_command;
 use samples::script::read_script;
-use samples::state::AT;
 use samples::state::step;
 
 fn run(script: &[u8], key: &[u8], book: &mut [u8], kept: &mut [u8], output: &mut [u8]) {
-    let mut state = [0usize; 8];
+    let mut state = [0usize; 16];
     let mut left: u64 = 1000000;
     while 0 < left {
-        let command = command_at(script, state[AT]);
-        commands::run(command, script, &mut state, book, kept, output);
-        run_call(command, script, &state, key, book, output);
-        left = step(script, command, &mut state, left);
+        read_command(script, &mut state);
+        commands::run(script, &mut state, book, kept, output);
+        run_call(script, &state, key, book, output);
+        left = step(script, &mut state, left);
     }
 }
 

@@ -95,9 +95,9 @@ fn byte_at(book: &[u8], at: usize) -> u8 {
     if at < book.len() { book[at] } else { 0 }
 }
 
-// Exchanges what two books of one length hold.
-pub fn exchange(a: &mut [u8], b: &mut [u8]) {
-    let mut i = 0;
+// Exchanges what two books of one length hold, where that is wanted.
+pub fn exchange(is_wanted: bool, a: &mut [u8], b: &mut [u8]) {
+    let mut i = if is_wanted { 0 } else { a.len() };
     while i < a.len() {
         let x = a[i];
         a[i] = byte_at(b, i);

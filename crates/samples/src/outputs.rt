@@ -1,9 +1,11 @@
 // Outputs to lend: every byte holds one value before a call, so that a refused call that wrote would show.
-use crate::script::Command;
 use crate::script::say_part;
 use crate::script::say_text;
 use crate::state::CASE;
 use crate::state::CASE_END;
+use crate::state::COLON;
+use crate::state::COMMAND;
+use crate::state::FROM;
 use crate::state::WAY;
 use console::say;
 use console::say_answer;
@@ -32,25 +34,31 @@ fn is_untouched(output: &[u8]) -> bool {
     true
 }
 
-// The start of a line: the call, the case, and the way, which the first call, for constants, does not take. At 'seal', command 7, it says nothing.
-pub fn begin(command: Command, script: &[u8], state: &[usize; 8]) {
-    let number = command.number;
-    if number == 7 {
+// The way, which the first call, for constants, does not take.
+fn say_way(command: usize, way: usize) {
+    if command == 1 {
         return;
     }
-    say_part(script, command.from, command.colon);
+    say(b", way ");
+    say_number(way as u64);
+}
+
+// The start of a line: the call, the case and the way. At 'seal', command 7, it says nothing.
+pub fn begin(script: &[u8], state: &[usize; 16]) {
+    let command = state[COMMAND];
+    if command == 7 {
+        return;
+    }
+    say_part(script, state[FROM], state[COLON]);
     say(b", ");
     say_text(script, state[CASE], state[CASE_END]);
-    if number != 1 {
-        say(b", way ");
-        say_number(state[WAY] as u64);
-    }
+    say_way(command, state[WAY]);
     say(b": ");
 }
 
 // The rest of the line: the check, the count, and whether the output was written.
-pub fn end(command: Command, answer: u64, output: &[u8]) {
-    if command.number == 7 {
+pub fn end(command: usize, answer: u64, output: &[u8]) {
+    if command == 7 {
         return;
     }
     say_answer(answer);

@@ -1,6 +1,15 @@
 // A script of commands. A command ends at a semicolon or at its line's end. It is a name of letters and spaces, and then numbers or, after a
 // colon, text. A line that begins with # says nothing to the program.
 use crate::outputs::within;
+use crate::state::COLON;
+use crate::state::COMMAND;
+use crate::state::END;
+use crate::state::FIFTH;
+use crate::state::FIRST;
+use crate::state::FOURTH;
+use crate::state::FROM;
+use crate::state::SECOND;
+use crate::state::THIRD;
 use libc::STDIN_FILENO;
 ghost use Prim.Native.Nat.{_≤_};
 ghost use mathlib.Core.Path.{_≡_};
@@ -10,7 +19,7 @@ ghost use Rattle.io.specs.Counts.{Counts};
 // Where a part of a script ends: a name at what is no letter and no space, a command at a semicolon or at its line's end.
 pub const NAME: u8 = 0;
 
-pub const COMMAND: u8 = 1;
+pub const WHOLE: u8 = 1;
 
 pub const LINE: u8 = 2;
 
@@ -70,32 +79,37 @@ fn appended(number: usize, byte: u8) -> usize {
     number * 10 + (byte - b'0') as usize
 }
 
-// Which of five numbers the next byte belongs to.
+// Which of the five numbers the next byte belongs to.
 fn place_after(k: usize, byte: u8) -> usize
-    requires { ⌜ k ≤ 4 ⌝ }
-    ensures { λ r. ⌜ r ≤ 4 ⌝ }
+    requires { ⌜ k ≤ 15 ⌝ }
+    ensures { λ r. ⌜ r ≤ 15 ⌝ }
 {
     if byte == b' ' {
-        if k < 4 {
+        if k < FIFTH {
             return k + 1;
         }
     }
     k
 }
 
-// The numbers of a text that has a space between them, at most five.
-fn numbers(text: &[u8]) -> [usize; 5]
-    ensures { λ r. ⌜ 5 ≡ length r ⌝ }
-{
-    let mut found = [0usize; 5];
-    let mut k = 0;
+fn clear(state: &mut [usize; 16]) {
+    state[FIRST] = 0;
+    state[SECOND] = 0;
+    state[THIRD] = 0;
+    state[FOURTH] = 0;
+    state[FIFTH] = 0;
+}
+
+// Puts the numbers of a text that has a space between them into the state, at most five.
+fn read_numbers(text: &[u8], state: &mut [usize; 16]) {
+    clear(state);
+    let mut k = FIRST;
     let mut i = 0;
     while i < text.len() {
-        found[k] = appended(found[k], text[i]);
+        state[k] = appended(state[k], text[i]);
         k = place_after(k, text[i]);
         i += 1;
     }
-    found
 }
 
 // The place of a name in a list of names with a comma after each, or the number of names where it is not there.
@@ -124,29 +138,15 @@ fn number_of(name: &[u8]) -> usize {
     )
 }
 
-// A command: the place of its name in the list of names, its numbers, and where it begins, its name ends and it ends.
-pub struct Command {
-    pub number: usize,
-    pub numbers: [usize; 5],
-    pub from: usize,
-    pub colon: usize,
-    pub end: usize,
-}
-
-// The command that begins at a place.
-pub fn command_at(script: &[u8], at: usize) -> Command {
-    let from = within(at, script);
+// Reads the command that begins where the state says.
+pub fn read_command(script: &[u8], state: &mut [usize; 16]) {
+    let from = within(state[FROM], script);
     let colon = find_end(NAME, script, from);
-    let end = find_end(COMMAND, script, colon);
-    let number = number_of(&script[from..colon]);
-    let numbers = numbers(&script[colon..end]);
-    Command {
-        number,
-        numbers,
-        from,
-        colon,
-        end,
-    }
+    let end = find_end(WHOLE, script, colon);
+    state[COLON] = colon;
+    state[END] = end;
+    state[COMMAND] = number_of(&script[from..colon]);
+    read_numbers(&script[colon..end], state);
 }
 
 // Says a part of a script, if the script has it.

@@ -14,11 +14,8 @@ abbrev μ-loop : tie.MeasureT-loop
 loop-holds : tie.Need-loop-holds Inv-loop μ-loop
 loop-holds c = search needs
 
-array-read-command-at : tie.Need-array-read-command-at Inv-loop μ-loop
-array-read-command-at c = search needs
-
-command-at-requires : tie.Need-command-at-requires Inv-loop μ-loop
-command-at-requires c κs = search needs
+read-command-requires : tie.Need-read-command-requires Inv-loop μ-loop
+read-command-requires c κs = search needs
 
 run-requires : tie.Need-run-requires Inv-loop μ-loop
 run-requires c κs = search needs
@@ -54,8 +51,7 @@ run-spec =
     Inv-loop
     μ-loop
     loop-holds
-    array-read-command-at
-    command-at-requires
+    read-command-requires
     run-requires
     run-call-requires
     step-requires

@@ -1,5 +1,5 @@
--- `samples::books::exchange` ends and stays within the books: the place is at most the first one's length, and stores keep both lengths.
-use Prim.Native.Nat.{_≤_, _-_}
+-- `samples::books::exchange` ends and stays within the books: what is left falls with each byte, and stores keep both lengths.
+use Prim.Native.Nat.{_-_}
 use mathlib.Core.Path.{_≡_}
 use native.Mathlib.Omega.{arith}
 use lib.ListN.{length, length-set}
@@ -8,10 +8,10 @@ use Rattle.samples.proofs.books.exchange.Statement.{statement}
 use Rattle.samples.proofs.books.exchange.Tie as tie
 
 abbrev Inv-loop : tie.InvT-loop
-Inv-loop a₀ b₀ i₀ a b i = (i ≤ length a) × (length a ≡ length a₀) × (length b ≡ length b₀)
+Inv-loop is-wanted a₀ b₀ i₀ a b i = (length a ≡ length a₀) × (length b ≡ length b₀)
 
 abbrev μ-loop : tie.MeasureT-loop
-μ-loop a₀ b₀ i₀ a b i = length a - i
+μ-loop is-wanted a₀ b₀ i₀ a b i = length a - i
 
 loop-holds : tie.Need-loop-holds Inv-loop μ-loop
 loop-holds c = search needs
