@@ -1,8 +1,6 @@
 -- `samples::script::find_end` ends and reads only what is there, and its answer lies between the place it starts at and the end.
 use Prim.Native.Nat.{_≤_, _-_}
-use mathlib.Core.Path.{_≡_}
-use native.Mathlib.Omega.{arith}
-use lib.ListN.{length, length-set}
+use lib.ListN.{length}
 use borrow.Author.Needs.{needs}
 use Rattle.samples.proofs.script.find_end.Statement.{statement}
 use Rattle.samples.proofs.script.find_end.Tie as tie
