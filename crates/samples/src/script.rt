@@ -8,11 +8,9 @@ ghost use mathlib.Core.Path.{_≡_};
 ghost use Rattle.io.specs.Counts.{Counts};
 
 // Where a part of a script ends: a name at what is no letter and no space, a command at a semicolon or at its line's end.
-pub const NAME: u8 = 0;
+const NAME: u8 = 0;
 
-pub const WHOLE: u8 = 1;
-
-pub const LINE: u8 = 2;
+const WHOLE: u8 = 1;
 
 fn ends(part: u8, byte: u8) -> bool {
     if byte == b'\n' {
