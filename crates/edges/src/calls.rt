@@ -9,11 +9,8 @@ use samples::outputs::begin;
 use samples::outputs::end;
 use samples::outputs::fill;
 use samples::outputs::within;
-use samples::state::COMMAND;
-use samples::state::KEY;
-use samples::state::LENGTH;
-use samples::state::SIZE;
-use samples::state::WAY;
+use samples::script::Command;
+use samples::state::State;
 
 // A call by its command's number. The command 'seal', which is not reported, encrypts a book too.
 fn call(number: usize, key: &[u8], length: u64, way: u64, input: &[u8], output: &mut [u8]) -> u64 {
@@ -27,32 +24,51 @@ fn call(number: usize, key: &[u8], length: u64, way: u64, input: &[u8], output: 
     }
 }
 
-fn report(script: &[u8], state: &[usize; 16], key: &[u8], input: &[u8], output: &mut [u8]) {
-    let command = state[COMMAND];
-    begin(script, state);
+fn report(
+    command: Command,
+    script: &[u8],
+    state: State,
+    key: &[u8],
+    input: &[u8],
+    output: &mut [u8],
+) {
+    begin(command, script, state);
     fill(output);
     let answer = call(
-        command,
+        command.number,
         key,
-        state[KEY] as u64,
-        state[WAY] as u64,
+        state.key as u64,
+        state.way as u64,
         input,
         output,
     );
-    end(command, answer, output);
+    end(command.number, answer, output);
 }
 
 // Commands 1 to 7: a call with as many bytes of the key, the book and the output as the state says.
-pub fn run_call(script: &[u8], state: &[usize; 16], key: &[u8], book: &[u8], output: &mut [u8]) {
-    let command = state[COMMAND];
-    if command == 0 {
+pub fn run_call(
+    command: Command,
+    script: &[u8],
+    state: State,
+    key: &[u8],
+    book: &[u8],
+    output: &mut [u8],
+) {
+    if command.number == 0 {
         return;
     }
-    if 7 < command {
+    if 7 < command.number {
         return;
     }
-    let k = within(state[KEY], key);
-    let b = within(state[LENGTH], book);
-    let n = within(state[SIZE], output);
-    report(script, state, &key[..k], &book[..b], &mut output[..n]);
+    let k = within(state.key, key);
+    let b = within(state.length, book);
+    let n = within(state.size, output);
+    report(
+        command,
+        script,
+        state,
+        &key[..k],
+        &book[..b],
+        &mut output[..n],
+    );
 }

@@ -7,18 +7,20 @@ mod calls;
 
 use calls::run_call;
 use samples::commands;
-use samples::script::read_command;
+use samples::script::command_at;
 use samples::script::read_script;
-use samples::state::step;
+use samples::state::State;
+use samples::state::fewer;
 
 fn run(script: &[u8], key: &[u8], book: &mut [u8], kept: &mut [u8], output: &mut [u8]) {
-    let mut state = [0usize; 16];
+    let mut state = State::new();
     let mut left: u64 = 1000000;
     while 0 < left {
-        read_command(script, &mut state);
-        commands::run(script, &mut state, book, kept, output);
-        run_call(script, &state, key, book, output);
-        left = step(script, &mut state, left);
+        let command = command_at(script, state.at);
+        state = state.after(command);
+        commands::run(command, script, state, book, kept, output);
+        run_call(command, script, state, key, book, output);
+        left = fewer(left, script, state.at);
     }
 }
 

@@ -4,29 +4,21 @@ use crate::books::flip;
 use crate::books::put;
 use crate::books::write_book;
 use crate::outputs::within;
+use crate::script::Command;
 use crate::script::say_part;
 use crate::script::say_text;
-use crate::state::COLON;
-use crate::state::COMMAND;
-use crate::state::END;
-use crate::state::FIRST;
-use crate::state::FOURTH;
-use crate::state::FROM;
-use crate::state::LENGTH;
-use crate::state::SECOND;
-use crate::state::SIZE;
-use crate::state::THIRD;
-use crate::state::set;
+use crate::state::State;
 use check::same;
 use console::say;
 use console::say_words;
 
 // Commands 14 to 16, which change the book.
-fn edit(state: &[usize; 16], book: &mut [u8]) {
-    let at = state[FIRST];
-    let value = (state[SECOND] % 256) as u8;
-    match state[COMMAND] {
-        14 => write_book(book, at, state[SECOND], state[THIRD], state[FOURTH]),
+fn edit(command: Command, book: &mut [u8]) {
+    let number = command.number;
+    let at = command.first;
+    let value = (command.second % 256) as u8;
+    match number {
+        14 => write_book(book, at, command.second, command.third, command.fourth),
         15 => put(book, at, value),
         16 => flip(book, at, value),
         _ => (),
@@ -62,37 +54,38 @@ fn pass(script: &[u8], at: usize, end: usize) {
 }
 
 // Commands 19 to 21, which write, and names that are no command's.
-fn tell(script: &[u8], state: &[usize; 16], book: &[u8], kept: &[u8], output: &[u8]) {
-    match state[COMMAND] {
-        0 => pass(script, state[COLON], state[END]),
+fn tell(command: Command, script: &[u8], state: State, book: &[u8], kept: &[u8], output: &[u8]) {
+    let number = command.number;
+    match number {
+        0 => pass(script, command.colon, command.end),
         19 => {
-            say_text(script, state[COLON], state[END]);
+            say_text(script, command.colon, command.end);
             say(b"\n");
         }
         20 => {
-            say_text(script, state[COLON], state[END]);
-            compare(kept, output, state[SIZE]);
+            say_text(script, command.colon, command.end);
+            compare(kept, output, state.size);
         }
         21 => {
-            let b = within(state[LENGTH], book);
+            let b = within(state.length, book);
             say_words(&book[..b]);
         }
-        23 => say_unknown(script, state[FROM], state[END]),
+        23 => say_unknown(script, command.from, command.end),
         _ => (),
     }
 }
 
 // Any command but the exported calls, at which it does nothing.
 pub fn run(
+    command: Command,
     script: &[u8],
-    state: &mut [usize; 16],
+    state: State,
     book: &mut [u8],
     kept: &mut [u8],
     output: &mut [u8],
 ) {
-    set(state);
-    edit(state, book);
-    exchange(state[COMMAND] == 17, kept, output);
-    exchange(state[COMMAND] == 18, book, kept);
-    tell(script, state, book, kept, output);
+    edit(command, book);
+    exchange(command.number == 17, kept, output);
+    exchange(command.number == 18, book, kept);
+    tell(command, script, state, book, kept, output);
 }

@@ -1,12 +1,8 @@
 // Outputs to lend: every byte holds one value before a call, so that a refused call that wrote would show.
+use crate::script::Command;
 use crate::script::say_part;
 use crate::script::say_text;
-use crate::state::CASE;
-use crate::state::CASE_END;
-use crate::state::COLON;
-use crate::state::COMMAND;
-use crate::state::FROM;
-use crate::state::WAY;
+use crate::state::State;
 use console::say;
 use console::say_answer;
 use console::say_number;
@@ -44,15 +40,14 @@ fn say_way(command: usize, way: usize) {
 }
 
 // The start of a line: the call, the case and the way. At 'seal', command 7, it says nothing.
-pub fn begin(script: &[u8], state: &[usize; 16]) {
-    let command = state[COMMAND];
-    if command == 7 {
+pub fn begin(command: Command, script: &[u8], state: State) {
+    if command.number == 7 {
         return;
     }
-    say_part(script, state[FROM], state[COLON]);
+    say_part(script, command.from, command.colon);
     say(b", ");
-    say_text(script, state[CASE], state[CASE_END]);
-    say_way(command, state[WAY]);
+    say_text(script, state.case, state.case_end);
+    say_way(command.number, state.way);
     say(b": ");
 }
 

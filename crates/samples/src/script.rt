@@ -1,26 +1,16 @@
 // A script of commands. A command ends at a semicolon or at its line's end. It is a name of letters and spaces, and then numbers or, after a
 // colon, text. A line that begins with # says nothing to the program.
 use crate::outputs::within;
-use crate::state::COLON;
-use crate::state::COMMAND;
-use crate::state::END;
-use crate::state::FIFTH;
-use crate::state::FIRST;
-use crate::state::FOURTH;
-use crate::state::FROM;
-use crate::state::SECOND;
-use crate::state::THIRD;
 use libc::STDIN_FILENO;
 ghost use Prim.Native.Nat.{_≤_};
 ghost use lib.ListN.{length};
+ghost use mathlib.Core.Path.{_≡_};
 ghost use Rattle.io.specs.Counts.{Counts};
 
 // Where a part of a script ends: a name at what is no letter and no space, a command at a semicolon or at its line's end.
-pub const NAME: u8 = 0;
+const NAME: u8 = 0;
 
-pub const WHOLE: u8 = 1;
-
-pub const LINE: u8 = 2;
+const WHOLE: u8 = 1;
 
 fn ends(part: u8, byte: u8) -> bool {
     if byte == b'\n' {
@@ -48,7 +38,7 @@ fn find_end(part: u8, script: &[u8], from: usize) -> usize
 }
 
 // Where the command after one that ends at a place begins: past its end, and past a space.
-pub fn after(script: &[u8], end: usize) -> usize {
+fn after(script: &[u8], end: usize) -> usize {
     if end < script.len() {
         let next = end + 1;
         if next < script.len() {
@@ -78,37 +68,32 @@ fn appended(number: usize, byte: u8) -> usize {
     number * 10 + (byte - b'0') as usize
 }
 
-// Which of the five numbers the next byte belongs to.
+// Which of five numbers the next byte belongs to.
 fn place_after(k: usize, byte: u8) -> usize
-    requires { ⌜ k ≤ 15 ⌝ }
-    ensures { λ r. ⌜ r ≤ 15 ⌝ }
+    requires { ⌜ k ≤ 4 ⌝ }
+    ensures { λ r. ⌜ r ≤ 4 ⌝ }
 {
     if byte == b' ' {
-        if k < FIFTH {
+        if k < 4 {
             return k + 1;
         }
     }
     k
 }
 
-fn clear(state: &mut [usize; 16]) {
-    state[FIRST] = 0;
-    state[SECOND] = 0;
-    state[THIRD] = 0;
-    state[FOURTH] = 0;
-    state[FIFTH] = 0;
-}
-
-// Puts the numbers of a text that has a space between them into the state, at most five.
-fn read_numbers(text: &[u8], state: &mut [usize; 16]) {
-    clear(state);
-    let mut k = FIRST;
+// The numbers of a text that has a space between them, at most five.
+fn numbers(text: &[u8]) -> [usize; 5]
+    ensures { λ r. ⌜ 5 ≡ length r ⌝ }
+{
+    let mut found = [0usize; 5];
+    let mut k = 0;
     let mut i = 0;
     while i < text.len() {
-        state[k] = appended(state[k], text[i]);
+        found[k] = appended(found[k], text[i]);
         k = place_after(k, text[i]);
         i += 1;
     }
+    found
 }
 
 // The place of a name in a list of names with a comma after each, or the number of names where it is not there.
@@ -137,15 +122,39 @@ fn number_of(name: &[u8]) -> usize {
     )
 }
 
-// Reads the command that begins where the state says.
-pub fn read_command(script: &[u8], state: &mut [usize; 16]) {
-    let from = within(state[FROM], script);
+// A command: the place of its name in the list of names, its numbers, and where it begins, its name ends, it ends and the next one begins.
+pub struct Command {
+    pub number: usize,
+    pub first: usize,
+    pub second: usize,
+    pub third: usize,
+    pub fourth: usize,
+    pub fifth: usize,
+    pub from: usize,
+    pub colon: usize,
+    pub end: usize,
+    pub next: usize,
+}
+
+// The command that begins at a place.
+pub fn command_at(script: &[u8], at: usize) -> Command {
+    let from = within(at, script);
     let colon = find_end(NAME, script, from);
     let end = find_end(WHOLE, script, colon);
-    state[COLON] = colon;
-    state[END] = end;
-    state[COMMAND] = number_of(&script[from..colon]);
-    read_numbers(&script[colon..end], state);
+    let number = number_of(&script[from..colon]);
+    let n = numbers(&script[colon..end]);
+    Command {
+        number,
+        first: n[0],
+        second: n[1],
+        third: n[2],
+        fourth: n[3],
+        fifth: n[4],
+        from,
+        colon,
+        end,
+        next: after(script, end),
+    }
 }
 
 // Says a part of a script, if the script has it.
