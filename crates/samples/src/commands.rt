@@ -1,8 +1,4 @@
 // The commands of a script but the exported calls. Each function does nothing at the numbers of other functions.
-use crate::books::exchange;
-use crate::books::flip;
-use crate::books::put;
-use crate::books::write_book;
 use crate::outputs::within;
 use crate::script::Command;
 use crate::script::say_part;
@@ -11,6 +7,10 @@ use crate::state::State;
 use check::same;
 use console::say;
 use console::say_words;
+use sample_books::exchange;
+use sample_books::flip;
+use sample_books::put;
+use sample_books::write_book;
 
 // Commands 14 to 16, which change the book.
 fn edit(command: Command, book: &mut [u8]) {

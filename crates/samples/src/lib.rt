@@ -1,6 +1,5 @@
 // What the program of the edges is written with: its script, the numbers that commands set, the books, lent outputs that show whether a call
 // wrote, and every command but the exported calls.
-pub mod books;
 pub mod commands;
 pub mod outputs;
 pub mod script;

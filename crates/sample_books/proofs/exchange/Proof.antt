@@ -1,11 +1,11 @@
--- `samples::books::exchange` ends and stays within the books: what is left falls with each byte, and stores keep both lengths.
+-- `sample_books::exchange` ends and stays within the books: what is left falls with each byte, and stores keep both lengths.
 use Prim.Native.Nat.{_-_}
 use mathlib.Core.Path.{_≡_}
 use native.Mathlib.Omega.{arith}
 use lib.ListN.{length, length-set}
 use borrow.Author.Needs.{needs}
-use Rattle.samples.proofs.books.exchange.Statement.{statement}
-use Rattle.samples.proofs.books.exchange.Tie as tie
+use Rattle.sample_books.proofs.exchange.Statement.{statement}
+use Rattle.sample_books.proofs.exchange.Tie as tie
 
 abbrev Inv-loop : tie.InvT-loop
 Inv-loop is-wanted a₀ b₀ i₀ a b i = (length a ≡ length a₀) × (length b ≡ length b₀)

@@ -1,11 +1,11 @@
--- `samples::books::write_book` ends and writes only what is there: the place is at most the length, and stores keep the length.
+-- `sample_books::write_book` ends and writes only what is there: the place is at most the length, and stores keep the length.
 use Prim.Native.Nat.{_≤_, _-_}
 use mathlib.Core.Path.{_≡_}
 use native.Mathlib.Omega.{arith}
 use lib.ListN.{length, length-set}
 use borrow.Author.Needs.{needs}
-use Rattle.samples.proofs.books.write_book.Statement.{statement}
-use Rattle.samples.proofs.books.write_book.Tie as tie
+use Rattle.sample_books.proofs.write_book.Statement.{statement}
+use Rattle.sample_books.proofs.write_book.Tie as tie
 
 abbrev Inv-loop : tie.InvT-loop
 Inv-loop book₀ first sheets each last i₀ book i = (i ≤ length book) × (length book ≡ length book₀)
