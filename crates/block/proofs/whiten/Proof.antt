@@ -6,22 +6,10 @@ use Rattle.rows.specs.Rows.{spelled, spell}
 use Rattle.block.proofs.whiten.Statement.{statement}
 use Rattle.block.proofs.whiten.Tie as tie
 
-array-read-t7 : tie.Need-array-read-t7
-array-read-t7 c = search needs
-
-array-read-t10 : tie.Need-array-read-t10
-array-read-t10 c = search needs
-
-array-read-t14 : tie.Need-array-read-t14
-array-read-t14 c = search needs
-
-array-read-t17 : tie.Need-array-read-t17
-array-read-t17 c = search needs
-
 returns : tie.Need-returns
 unfolding spelled xors whiten
 returns c = rw (spell 4 (c .args .t3) (c .good .1 .1 .0 .1 .0 .1))
 
 pub whiten-spec : {M : Type 1} → statement M
 whiten-spec =
-    tie.close (tie.spec array-read-t7 array-read-t10 array-read-t14 array-read-t17 returns)
+    tie.close (tie.spec (λ c. search needs) (λ c. search needs) (λ c. search needs) (λ c. search needs) returns)

@@ -37,47 +37,14 @@ recoded c =
     let s : tie.Start Inv-loop μ-loop = start i in
     rw (part 24 (i .before .loop .from) (s .args .book .now) refl, part _ (i .before .loop .at) (s .args .book .now) (b .body-end .ensures)) at (c .recode-sheet .ensures)
 
-half-requires : tie.Need-half-requires Inv-loop μ-loop
-half-requires c κs = search needs
-
-mul-at : tie.Need-mul-at Inv-loop μ-loop
-mul-at c = search needs
-
-add-at : tie.Need-add-at Inv-loop μ-loop
-add-at c = search needs
-
 loop-holds : tie.Need-loop-holds Inv-loop μ-loop
 loop-holds c = rw (c .half .ensures) (filled-start _ _ (c .before .before .before .before .pre .1 .1) (c .before .before .before .before .pre .1 .2))
-
-add-next : tie.Need-add-next Inv-loop μ-loop
-add-next c = search needs
 
 body-end-requires : tie.Need-body-end-requires Inv-loop μ-loop
 body-end-requires c κs = (following c .entry, following c .body)
 
-sub-recode-sheet : tie.Need-sub-recode-sheet Inv-loop μ-loop
-sub-recode-sheet c = search needs
-
-part-recode-sheet-start : tie.Need-part-recode-sheet-start Inv-loop μ-loop
-part-recode-sheet-start c = search needs
-
-part-recode-sheet-end : tie.Need-part-recode-sheet-end Inv-loop μ-loop
-part-recode-sheet-end c = search needs
-
-sub-recode-sheet-2 : tie.Need-sub-recode-sheet-2 Inv-loop μ-loop
-sub-recode-sheet-2 c = search needs
-
-part-recode-sheet-start-2 : tie.Need-part-recode-sheet-start-2 Inv-loop μ-loop
-part-recode-sheet-start-2 c = search needs
-
 part-recode-sheet-end-2 : tie.Need-part-recode-sheet-end-2 Inv-loop μ-loop
 part-recode-sheet-end-2 c = omega (arith, c .before .body-end .ensures, following (c .before .before) .body)
-
-sub-recode-sheet-3 : tie.Need-sub-recode-sheet-3 Inv-loop μ-loop
-sub-recode-sheet-3 c = search needs
-
-part-recode-sheet-start-3 : tie.Need-part-recode-sheet-start-3 Inv-loop μ-loop
-part-recode-sheet-start-3 c = search needs
 
 part-recode-sheet-end-3 : tie.Need-part-recode-sheet-end-3 Inv-loop μ-loop
 part-recode-sheet-end-3 c =
@@ -99,12 +66,6 @@ recode-sheet-requires c κs =
         ),
       ),
     )
-
-sub-left : tie.Need-sub-left Inv-loop μ-loop
-sub-left c = search needs
-
-loop-less : tie.Need-loop-less Inv-loop μ-loop
-loop-less c = search needs
 
 loop-again : tie.Need-loop-again Inv-loop μ-loop
 loop-again c =
@@ -129,24 +90,24 @@ recode-bodies-spec =
     (tie.spec
     Inv-loop
     μ-loop
-    half-requires
-    mul-at
-    add-at
+    (λ c κs. search needs)
+    (λ c. search needs)
+    (λ c. search needs)
     loop-holds
-    add-next
+    (λ c. search needs)
     body-end-requires
-    sub-recode-sheet
-    part-recode-sheet-start
-    part-recode-sheet-end
-    sub-recode-sheet-2
-    part-recode-sheet-start-2
+    (λ c. search needs)
+    (λ c. search needs)
+    (λ c. search needs)
+    (λ c. search needs)
+    (λ c. search needs)
     part-recode-sheet-end-2
-    sub-recode-sheet-3
-    part-recode-sheet-start-3
+    (λ c. search needs)
+    (λ c. search needs)
     part-recode-sheet-end-3
     recode-sheet-requires
-    sub-left
-    loop-less
+    (λ c. search needs)
+    (λ c. search needs)
     loop-again
     same-length
     returns)

@@ -21,18 +21,6 @@ answered : (k : tie.After-known-told) →
     Accepted (k .before .form .given .0 .0) ≡ formAnswer (markOf (s .args .decrypting)) (s .args .book .now)
 answered k = sym (k .before .form .given .1) ∙ formed (k .before .before .before)
 
-mark-requires : tie.Need-mark-requires
-mark-requires c κs = search needs
-
-check-form-requires : tie.Need-check-form-requires
-check-form-requires c κs = search needs
-
-enum-known-form : tie.Need-enum-known-form
-enum-known-form c = search needs
-
-enum-told : tie.Need-enum-told
-enum-told c = search needs
-
 returns : tie.Need-returns
 returns c =
     let s : tie.Start = start (c .before .before) in
@@ -61,10 +49,10 @@ pub check-book-spec : {M : Type 1} → statement M
 check-book-spec =
     tie.close
     (tie.spec
-    mark-requires
-    check-form-requires
-    enum-known-form
-    enum-told
+    (λ c κs. search needs)
+    (λ c κs. search needs)
+    (λ c. search needs)
+    (λ c. search needs)
     returns
     records-hold-requires
     returns-2

@@ -5,18 +5,6 @@ use borrow.Author.Needs.{needs}
 use Rattle.book.proofs.write_book.Statement.{statement}
 use Rattle.book.proofs.write_book.Tie as tie
 
-mark-requires : tie.Need-mark-requires
-mark-requires c κs = search needs
-
-copy-front-requires : tie.Need-copy-front-requires
-copy-front-requires c κs = search needs
-
-recode-bodies-requires : tie.Need-recode-bodies-requires
-recode-bodies-requires c κs = search needs
-
-same-length : tie.Need-same-length
-same-length c = search needs
-
 returns : tie.Need-returns
 returns c =
     let r : tie.After-recode-bodies = c .before .before in
@@ -26,4 +14,4 @@ returns c =
 
 pub write-book-spec : {M : Type 1} → statement M
 write-book-spec =
-    tie.close (tie.spec mark-requires copy-front-requires recode-bodies-requires same-length returns)
+    tie.close (tie.spec (λ c κs. search needs) (λ c κs. search needs) (λ c κs. search needs) (λ c. search needs) returns)

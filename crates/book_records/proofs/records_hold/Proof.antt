@@ -38,38 +38,11 @@ tested c =
     let s : tie.Start Inv-loop μ-loop = start i in
     rw (part 24 (i .before .loop .from) (s .args .book .now) refl, part _ (i .before .loop .at) (s .args .book .now) (b .body-end .ensures)) at (c .sheet-holds .ensures)
 
-half-requires : tie.Need-half-requires Inv-loop μ-loop
-half-requires c κs = search needs
-
-mul-at : tie.Need-mul-at Inv-loop μ-loop
-mul-at c = search needs
-
-add-at : tie.Need-add-at Inv-loop μ-loop
-add-at c = search needs
-
 loop-holds : tie.Need-loop-holds Inv-loop μ-loop
 loop-holds c = rw (c .half .ensures) (tested-start _ (c .before .before .before .pre .1))
 
-add-next : tie.Need-add-next Inv-loop μ-loop
-add-next c = search needs
-
 body-end-requires : tie.Need-body-end-requires Inv-loop μ-loop
 body-end-requires c κs = (following c .entry, following c .body)
-
-sub-sheet-holds : tie.Need-sub-sheet-holds Inv-loop μ-loop
-sub-sheet-holds c = search needs
-
-part-sheet-holds-start : tie.Need-part-sheet-holds-start Inv-loop μ-loop
-part-sheet-holds-start c = search needs
-
-part-sheet-holds-end : tie.Need-part-sheet-holds-end Inv-loop μ-loop
-part-sheet-holds-end c = search needs
-
-sub-sheet-holds-2 : tie.Need-sub-sheet-holds-2 Inv-loop μ-loop
-sub-sheet-holds-2 c = search needs
-
-part-sheet-holds-start-2 : tie.Need-part-sheet-holds-start-2 Inv-loop μ-loop
-part-sheet-holds-start-2 c = search needs
 
 part-sheet-holds-end-2 : tie.Need-part-sheet-holds-end-2 Inv-loop μ-loop
 part-sheet-holds-end-2 c =
@@ -93,12 +66,6 @@ returns c =
     let i : tie.In-loop Inv-loop μ-loop = c .before .before .before .before .before in
     tested-broken _ (i .before .loop .inv) (i .loop-test .taken) (sym (tested (c .before)) ∙ not-true _ (c .if1 .taken))
 
-sub-left : tie.Need-sub-left Inv-loop μ-loop
-sub-left c = search needs
-
-loop-less : tie.Need-loop-less Inv-loop μ-loop
-loop-less c = search needs
-
 loop-again : tie.Need-loop-again Inv-loop μ-loop
 loop-again c =
     let b : tie.After-body-end Inv-loop μ-loop = c .before .before .before .before in
@@ -114,21 +81,21 @@ records-hold-spec =
     (tie.spec
     Inv-loop
     μ-loop
-    half-requires
-    mul-at
-    add-at
+    (λ c κs. search needs)
+    (λ c. search needs)
+    (λ c. search needs)
     loop-holds
-    add-next
+    (λ c. search needs)
     body-end-requires
-    sub-sheet-holds
-    part-sheet-holds-start
-    part-sheet-holds-end
-    sub-sheet-holds-2
-    part-sheet-holds-start-2
+    (λ c. search needs)
+    (λ c. search needs)
+    (λ c. search needs)
+    (λ c. search needs)
+    (λ c. search needs)
     part-sheet-holds-end-2
     sheet-holds-requires
     returns
-    sub-left
-    loop-less
+    (λ c. search needs)
+    (λ c. search needs)
     loop-again
     returns-2)

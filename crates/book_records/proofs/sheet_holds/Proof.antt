@@ -10,9 +10,6 @@ decrypted-sheet-holds-requires c κs =
     let r : Ready _ _ _ = s .pre .0 (c .if1 .taken) in
     (r .lent, ((r .enough, s .pre .1 .0), s .pre .1 .1))
 
-clear-sheet-holds-requires : tie.Need-clear-sheet-holds-requires
-clear-sheet-holds-requires c κs = search needs
-
 returns : tie.Need-returns
 returns c = rw (c .before .if1 .taken) (c .decrypted-sheet-holds .ensures)
 
@@ -22,4 +19,4 @@ returns-2 c = rw (c .before .if1 .left) (c .clear-sheet-holds .ensures)
 pub sheet-holds-spec : {M : Type 1} → statement M
 sheet-holds-spec =
     tie.close
-    (tie.spec decrypted-sheet-holds-requires clear-sheet-holds-requires returns returns-2)
+    (tie.spec decrypted-sheet-holds-requires (λ c κs. search needs) returns returns-2)

@@ -11,15 +11,6 @@ start k = k .before .before .before .before .before .before .before .before
 passed : (k : tie.After-known-told) → Keyed (start k .args .key .now) (start k .args .way) (k .before .checked .given .0 .0)
 passed k = keyed _ _ (sym (k .before .checked .given .1) ∙ k .before .before .before .check-key .ensures)
 
-check-key-requires : tie.Need-check-key-requires
-check-key-requires c κs = search needs
-
-enum-known-checked : tie.Need-enum-known-checked
-enum-known-checked c = search needs
-
-enum-told : tie.Need-enum-told
-enum-told c = search needs
-
 returns : tie.Need-returns
 returns c = keyed-refused _ _ _ _ _ _ (c .before .before .check-key .ensures) (c .enum-told .given .1)
 
@@ -32,9 +23,6 @@ slice-aggregate-perform-by c = prefix _ (passed (c .before)) refl
 perform-by-requires : tie.Need-perform-by-requires
 perform-by-requires c κs = let k = passed (c .before .before) in (k .long, expanded-prefix _ k refl)
 
-same-length : tie.Need-same-length
-same-length c = search needs
-
 returns-2 : tie.Need-returns-2
 returns-2 c =
     let a : tie.After-perform-by = c .before .before .before in keyed-passed _ _ _ _ (passed (a .before .before .before)) (a .perform-by .ensures)
@@ -43,12 +31,12 @@ pub keyed-call-spec : {M : Type 1} → statement M
 keyed-call-spec =
     tie.close
     (tie.spec
-    check-key-requires
-    enum-known-checked
-    enum-told
+    (λ c κs. search needs)
+    (λ c. search needs)
+    (λ c. search needs)
     returns
     array-borrow-prefix-w
     slice-aggregate-perform-by
     perform-by-requires
-    same-length
+    (λ c. search needs)
     returns-2)

@@ -9,15 +9,9 @@ use Rattle.checks.specs.Laws.{failed, passed, expanded-size}
 use Rattle.checks.proofs.check_key.Statement.{statement}
 use Rattle.checks.proofs.check_key.Tie as tie
 
-one-of-requires : tie.Need-one-of-requires
-one-of-requires c κs = search needs
-
 returns : tie.Need-returns
 unfolding keyCheck
 returns c = sym (ap answerOf (judged-false (failed (c .before .one-of .ensures) (c .if1 .taken)) 1 _ _))
-
-one-of-requires-2 : tie.Need-one-of-requires-2
-one-of-requires-2 c κs = search needs
 
 returns-2 : tie.Need-returns-2
 unfolding keyCheck wayCheck
@@ -27,9 +21,6 @@ returns-2 c =
     (ap answerOf
     (judged-true (passed (e .before .one-of .ensures) (e .if1 .left)) 1 _ _
     ∙ judged-false (failed (c .before .one-of2 .ensures) (c .if2 .taken)) 2 _ _))
-
-add-t7 : tie.Need-add-t7
-add-t7 c = search needs
 
 returns-3 : tie.Need-returns-3
 unfolding keyCheck wayCheck
@@ -41,4 +32,4 @@ returns-3 c =
 
 pub check-key-spec : {M : Type 1} → statement M
 check-key-spec =
-    tie.close (tie.spec one-of-requires returns one-of-requires-2 returns-2 add-t7 returns-3)
+    tie.close (tie.spec (λ c κs. search needs) returns (λ c κs. search needs) returns-2 (λ c. search needs) returns-3)

@@ -18,12 +18,6 @@ returns-2 : tie.Need-returns-2
 unfolding blockUnder blockChecks blockCheck outputCheck
 returns-2 c = given-refused _ (judged-true (eq-eqb _ _ (c .before .if1 .left)) 3 _ _ ∙ judged-false (ne-eqb _ _ (c .if2 .taken)) 4 _ _)
 
-decrypt-block-requires : tie.Need-decrypt-block-requires
-decrypt-block-requires c κs = search needs
-
-same-length : tie.Need-same-length
-same-length c = search needs
-
 returns-3 : tie.Need-returns-3
 unfolding blockUnder blockChecks blockCheck outputCheck
 returns-3 c =
@@ -32,12 +26,6 @@ returns-3 c =
     given-accepted _ _
     (judged-true (eq-eqb _ _ (t .before .before .if1 .left)) 3 _ _ ∙ judged-true (eq-eqb _ _ (t .before .if2 .left)) 4 _ _ ∙ judged-pass none _)
     (decrypted _ _ (t .if3 .taken) (b .decrypt-block .ensures))
-
-encrypt-block-requires : tie.Need-encrypt-block-requires
-encrypt-block-requires c κs = search needs
-
-same-length-2 : tie.Need-same-length-2
-same-length-2 c = search needs
 
 returns-4 : tie.Need-returns-4
 unfolding blockUnder blockChecks blockCheck outputCheck
@@ -54,9 +42,9 @@ code-block-spec =
     (tie.spec
     returns
     returns-2
-    decrypt-block-requires
-    same-length
+    (λ c κs. search needs)
+    (λ c. search needs)
     returns-3
-    encrypt-block-requires
-    same-length-2
+    (λ c κs. search needs)
+    (λ c. search needs)
     returns-4)

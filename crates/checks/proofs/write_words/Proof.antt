@@ -9,22 +9,13 @@ use borrow.Author.Needs.{needs}
 use Rattle.checks.proofs.write_words.Statement.{statement}
 use Rattle.checks.proofs.write_words.Tie as tie
 
-mul-if1 : tie.Need-mul-if1
-mul-if1 c = search needs
-
 returns : tie.Need-returns
 unfolding outputCheck
 returns c = given-refused _ (judged-false (ne-eqb _ _ (c .if1 .taken)) 4 [] _)
-
-store-all-requires : tie.Need-store-all-requires
-store-all-requires c κs = search needs
-
-same-length : tie.Need-same-length
-same-length c = search needs
 
 returns-2 : tie.Need-returns-2
 unfolding outputCheck judged
 returns-2 c = given-accepted _ _ (judged-true (eq-eqb _ _ (c .before .before .before .before .if1 .left)) 4 [] _) (c .before .before .store-all .ensures)
 
 pub write-words-spec : {M : Type 1} → statement M
-write-words-spec = tie.close (tie.spec mul-if1 returns store-all-requires same-length returns-2)
+write-words-spec = tie.close (tie.spec (λ c. search needs) returns (λ c κs. search needs) (λ c. search needs) returns-2)

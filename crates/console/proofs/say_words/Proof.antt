@@ -27,17 +27,11 @@ add-at c = omega arith
 sub-left : tie.Need-sub-left Inv-loop μ-loop
 sub-left c = omega arith
 
-say-gap-requires : tie.Need-say-gap-requires Inv-loop μ-loop
-say-gap-requires c κs = search needs
-
 loop-less : tie.Need-loop-less Inv-loop μ-loop
 loop-less c = omega arith
 
 loop-again : tie.Need-loop-again Inv-loop μ-loop
 loop-again c = omega arith
-
-returns : tie.Need-returns Inv-loop μ-loop
-returns c = search needs
 
 pub say-words-spec : {M : Type 1} → statement M
 say-words-spec =
@@ -50,7 +44,7 @@ say-words-spec =
     say-word-requires
     add-at
     sub-left
-    say-gap-requires
+    (λ c κs. search needs)
     loop-less
     loop-again
-    returns)
+    (λ c. search needs))

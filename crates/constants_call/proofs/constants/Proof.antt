@@ -6,51 +6,15 @@ use borrow.Author.Needs.{needs}
 use Rattle.constants_call.proofs.constants.Statement.{statement}
 use Rattle.constants_call.proofs.constants.Tie as tie
 
-sixteen-requires : tie.Need-sixteen-requires
-sixteen-requires c κs = search needs
-
-slice-aggregate-write-words : tie.Need-slice-aggregate-write-words
-slice-aggregate-write-words c = search needs
-
-write-words-requires : tie.Need-write-words-requires
-write-words-requires c κs = search needs
-
-same-length : tie.Need-same-length
-same-length c = search needs
-
 returns : tie.Need-returns
 returns c =
     let w : tie.After-write-words = c .before .before in
     given-constants sixteen (w .before .before .before .before .if1 .taken) (w .before .before .before .sixteen .ensures) (w .write-words .ensures)
 
-twenty-four-requires : tie.Need-twenty-four-requires
-twenty-four-requires c κs = search needs
-
-slice-aggregate-write-words-2 : tie.Need-slice-aggregate-write-words-2
-slice-aggregate-write-words-2 c = search needs
-
-write-words-requires-2 : tie.Need-write-words-requires-2
-write-words-requires-2 c κs = search needs
-
-same-length-2 : tie.Need-same-length-2
-same-length-2 c = search needs
-
 returns-2 : tie.Need-returns-2
 returns-2 c =
     let w : tie.After-write-words2 = c .before .before in
     given-constants twentyFour (w .before .before .before .before .if2 .taken) (w .before .before .before .twenty-four .ensures) (w .write-words2 .ensures)
-
-thirty-two-requires : tie.Need-thirty-two-requires
-thirty-two-requires c κs = search needs
-
-slice-aggregate-write-words-3 : tie.Need-slice-aggregate-write-words-3
-slice-aggregate-write-words-3 c = search needs
-
-write-words-requires-3 : tie.Need-write-words-requires-3
-write-words-requires-3 c κs = search needs
-
-same-length-3 : tie.Need-same-length-3
-same-length-3 c = search needs
 
 returns-3 : tie.Need-returns-3
 returns-3 c =
@@ -64,19 +28,19 @@ pub constants-spec : {M : Type 1} → statement M
 constants-spec =
     tie.close
     (tie.spec
-    sixteen-requires
-    slice-aggregate-write-words
-    write-words-requires
-    same-length
+    (λ c κs. search needs)
+    (λ c. search needs)
+    (λ c κs. search needs)
+    (λ c. search needs)
     returns
-    twenty-four-requires
-    slice-aggregate-write-words-2
-    write-words-requires-2
-    same-length-2
+    (λ c κs. search needs)
+    (λ c. search needs)
+    (λ c κs. search needs)
+    (λ c. search needs)
     returns-2
-    thirty-two-requires
-    slice-aggregate-write-words-3
-    write-words-requires-3
-    same-length-3
+    (λ c κs. search needs)
+    (λ c. search needs)
+    (λ c κs. search needs)
+    (λ c. search needs)
     returns-3
     returns-4)

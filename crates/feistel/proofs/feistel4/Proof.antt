@@ -5,30 +5,6 @@ use Rattle.rows.specs.Rows.{spelled, spell}
 use Rattle.feistel.proofs.feistel4.Statement.{statement}
 use Rattle.feistel.proofs.feistel4.Tie as tie
 
-array-read-f0 : tie.Need-array-read-f0
-array-read-f0 c = search needs
-
-array-read-f0-2 : tie.Need-array-read-f0-2
-array-read-f0-2 c = search needs
-
-f0-requires : tie.Need-f0-requires
-f0-requires c κs = search needs
-
-array-read-f1 : tie.Need-array-read-f1
-array-read-f1 c = search needs
-
-array-read-f1-2 : tie.Need-array-read-f1-2
-array-read-f1-2 c = search needs
-
-f1-requires : tie.Need-f1-requires
-f1-requires c κs = search needs
-
-array-read-t11 : tie.Need-array-read-t11
-array-read-t11 c = search needs
-
-array-read-t14 : tie.Need-array-read-t14
-array-read-t14 c = search needs
-
 returns : tie.Need-returns
 unfolding spelled feistel
 returns c w i p q =
@@ -39,12 +15,12 @@ pub feistel4-spec : {M : Type 1} → statement M
 feistel4-spec =
     tie.close
     (tie.spec
-    array-read-f0
-    array-read-f0-2
-    f0-requires
-    array-read-f1
-    array-read-f1-2
-    f1-requires
-    array-read-t11
-    array-read-t14
+    (λ c. search needs)
+    (λ c. search needs)
+    (λ c κs. search needs)
+    (λ c. search needs)
+    (λ c. search needs)
+    (λ c κs. search needs)
+    (λ c. search needs)
+    (λ c. search needs)
     returns)

@@ -7,18 +7,6 @@ use borrow.Author.Needs.{needs}
 use Rattle.ffunction.proofs.by_rules.Statement.{statement}
 use Rattle.ffunction.proofs.by_rules.Tie as tie
 
-substitute-by-rules-requires : tie.Need-substitute-by-rules-requires
-substitute-by-rules-requires c κs = search needs
-
-matrix-times-requires : tie.Need-matrix-times-requires
-matrix-times-requires c κs = search needs
-
-substitute-by-rules-requires-2 : tie.Need-substitute-by-rules-requires-2
-substitute-by-rules-requires-2 c κs = search needs
-
-matrix-times-requires-2 : tie.Need-matrix-times-requires-2
-matrix-times-requires-2 c κs = search needs
-
 returns : tie.Need-returns
 unfolding mix matrix m0
 returns c =
@@ -35,9 +23,9 @@ pub by-rules-spec : {M : Type 1} → statement M
 by-rules-spec =
     tie.close
     (tie.spec
-    substitute-by-rules-requires
-    matrix-times-requires
-    substitute-by-rules-requires-2
-    matrix-times-requires-2
+    (λ c κs. search needs)
+    (λ c κs. search needs)
+    (λ c κs. search needs)
+    (λ c κs. search needs)
     returns
     returns-2)

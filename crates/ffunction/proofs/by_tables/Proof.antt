@@ -7,18 +7,6 @@ use borrow.Author.Needs.{needs}
 use Rattle.ffunction.proofs.by_tables.Statement.{statement}
 use Rattle.ffunction.proofs.by_tables.Tie as tie
 
-substitute-by-tables-requires : tie.Need-substitute-by-tables-requires
-substitute-by-tables-requires c κs = search needs
-
-matrix-times-requires : tie.Need-matrix-times-requires
-matrix-times-requires c κs = search needs
-
-substitute-by-tables-requires-2 : tie.Need-substitute-by-tables-requires-2
-substitute-by-tables-requires-2 c κs = search needs
-
-matrix-times-requires-2 : tie.Need-matrix-times-requires-2
-matrix-times-requires-2 c κs = search needs
-
 returns : tie.Need-returns
 unfolding mix matrix m0
 returns c =
@@ -35,9 +23,9 @@ pub by-tables-spec : {M : Type 1} → statement M
 by-tables-spec =
     tie.close
     (tie.spec
-    substitute-by-tables-requires
-    matrix-times-requires
-    substitute-by-tables-requires-2
-    matrix-times-requires-2
+    (λ c κs. search needs)
+    (λ c κs. search needs)
+    (λ c κs. search needs)
+    (λ c κs. search needs)
     returns
     returns-2)

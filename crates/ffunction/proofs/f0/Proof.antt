@@ -7,9 +7,6 @@ use Rattle.ffunction.proofs.f0.Tie as tie
 by-words-requires : tie.Need-by-words-requires
 by-words-requires c κs = (search needs, c .before .pre .words (c .if1 .taken))
 
-by-bytes0-requires : tie.Need-by-bytes0-requires
-by-bytes0-requires c κs = search needs
-
 returns : tie.Need-returns
 returns c = rw (c .by-words .ensures, mix-f0)
 
@@ -17,4 +14,4 @@ returns-2 : tie.Need-returns-2
 returns-2 c = rw (c .by-bytes0 .ensures, mix-f0)
 
 pub f0-spec : {M : Type 1} → statement M
-f0-spec = tie.close (tie.spec by-words-requires by-bytes0-requires returns returns-2)
+f0-spec = tie.close (tie.spec by-words-requires (λ c κs. search needs) returns returns-2)

@@ -7,9 +7,6 @@ use Rattle.ffunction.proofs.f1.Tie as tie
 by-words-requires : tie.Need-by-words-requires
 by-words-requires c κs = (search needs, c .before .pre .words (c .if1 .taken))
 
-by-bytes1-requires : tie.Need-by-bytes1-requires
-by-bytes1-requires c κs = search needs
-
 returns : tie.Need-returns
 returns c = rw (c .by-words .ensures, mix-f1)
 
@@ -17,4 +14,4 @@ returns-2 : tie.Need-returns-2
 returns-2 c = rw (c .by-bytes1 .ensures, mix-f1)
 
 pub f1-spec : {M : Type 1} → statement M
-f1-spec = tie.close (tie.spec by-words-requires by-bytes1-requires returns returns-2)
+f1-spec = tie.close (tie.spec by-words-requires (λ c κs. search needs) returns returns-2)

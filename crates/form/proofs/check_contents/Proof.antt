@@ -36,28 +36,10 @@ broken c =
 loop-holds : tie.Need-loop-holds Inv-loop μ-loop
 loop-holds c = (c .before .pre .0, walk-start _ _ (c .before .pre .1) (c .before .pre .0))
 
-add-end : tie.Need-add-end Inv-loop μ-loop
-add-end c = search needs
-
-sub-read-entry : tie.Need-sub-read-entry Inv-loop μ-loop
-sub-read-entry c = search needs
-
-part-read-entry-start : tie.Need-part-read-entry-start Inv-loop μ-loop
-part-read-entry-start c = search needs
-
-part-read-entry-end : tie.Need-part-read-entry-end Inv-loop μ-loop
-part-read-entry-end c = search needs
-
 read-entry-requires : tie.Need-read-entry-requires Inv-loop μ-loop
 read-entry-requires c κs =
     let a : tie.At-loop Inv-loop μ-loop = c .before .before in
     part-length 24 (a .loop .at) (a .before .before .args .book .now) refl (search needs)
-
-enum-known-sheet : tie.Need-enum-known-sheet Inv-loop μ-loop
-enum-known-sheet c = search needs
-
-enum-told : tie.Need-enum-told Inv-loop μ-loop
-enum-told c = search needs
 
 returns : tie.Need-returns Inv-loop μ-loop
 returns c = walk-broken (c .before .before .before .before .before .loop .inv .1) (search needs) (broken c)
@@ -68,20 +50,8 @@ add-records c =
     let few : c .before .before .sheet .given .0 .0 .count ≤ 1024 = rw (k .sheet) (k .few) in
     search needs
 
-sub-left : tie.Need-sub-left Inv-loop μ-loop
-sub-left c = search needs
-
-loop-less : tie.Need-loop-less Inv-loop μ-loop
-loop-less c = search needs
-
 loop-again : tie.Need-loop-again Inv-loop μ-loop
 loop-again c = (c .before .before .before .before .before .before .before .loop .inv .0, walk-step (c .before .before .before .before .before .before .before .loop .inv .1) _ (search needs) (good (c .before .before)))
-
-mul-if1 : tie.Need-mul-if1 Inv-loop μ-loop
-mul-if1 c = search needs
-
-add-if1 : tie.Need-add-if1 Inv-loop μ-loop
-add-if1 c = search needs
 
 returns-2 : tie.Need-returns-2 Inv-loop μ-loop
 returns-2 c =
@@ -102,19 +72,19 @@ check-contents-spec =
     Inv-loop
     μ-loop
     loop-holds
-    add-end
-    sub-read-entry
-    part-read-entry-start
-    part-read-entry-end
+    (λ c. search needs)
+    (λ c. search needs)
+    (λ c. search needs)
+    (λ c. search needs)
     read-entry-requires
-    enum-known-sheet
-    enum-told
+    (λ c. search needs)
+    (λ c. search needs)
     returns
     add-records
-    sub-left
-    loop-less
+    (λ c. search needs)
+    (λ c. search needs)
     loop-again
-    mul-if1
-    add-if1
+    (λ c. search needs)
+    (λ c. search needs)
     returns-2
     returns-3)

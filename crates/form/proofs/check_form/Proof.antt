@@ -8,15 +8,6 @@ use borrow.Author.Needs.{needs}
 use Rattle.form.proofs.check_form.Statement.{statement}
 use Rattle.form.proofs.check_form.Tie as tie
 
-check-head-requires : tie.Need-check-head-requires
-check-head-requires c κs = search needs
-
-enum-known-head : tie.Need-enum-known-head
-enum-known-head c = search needs
-
-enum-told : tie.Need-enum-told
-enum-told c = search needs
-
 returns : tie.Need-returns
 returns c = form-stopped _ _ (c .before .before .check-head .ensures) (c .enum-told .given .1)
 
@@ -34,9 +25,9 @@ pub check-form-spec : {M : Type 1} → statement M
 check-form-spec =
     tie.close
     (tie.spec
-    check-head-requires
-    enum-known-head
-    enum-told
+    (λ c κs. search needs)
+    (λ c. search needs)
+    (λ c. search needs)
     returns
     check-contents-requires
     returns-2)

@@ -27,9 +27,6 @@ six c = sym (c .before .headed .ensures) ∙ not-false _ (c .if2 .left)
 long : (c : tie.Else1) → 4 ≤ length (book c)
 long c = leb-true 4 (length (book c)) (and-left (leb 4 (length (book c))) (leb (length (book c)) 65532) (five c))
 
-sized-requires : tie.Need-sized-requires
-sized-requires c κs = search needs
-
 returns : tie.Need-returns
 unfolding formChecks judged
 returns c = rw (sym (c .before .sized .ensures) ∙ not-true _ (c .if1 .taken))
@@ -48,12 +45,6 @@ returns-3 : tie.Need-returns-3
 unfolding formChecks judged
 returns-3 c = rw (five (c .before .before .before .before), six (c .before .before), ← c .before .half .ensures, lt-leb _ _ (c .if3 .taken))
 
-mul-if4 : tie.Need-mul-if4
-mul-if4 c = search needs
-
-add-if4 : tie.Need-add-if4
-add-if4 c = search needs
-
 returns-4 : tie.Need-returns-4
 unfolding formChecks judged
 returns-4 c =
@@ -70,13 +61,13 @@ pub check-head-spec : {M : Type 1} → statement M
 check-head-spec =
     tie.close
     (tie.spec
-    sized-requires
+    (λ c κs. search needs)
     returns
     headed-requires
     returns-2
     half-requires
     returns-3
-    mul-if4
-    add-if4
+    (λ c. search needs)
+    (λ c. search needs)
     returns-4
     returns-5)

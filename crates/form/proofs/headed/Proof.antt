@@ -4,12 +4,6 @@ use borrow.Author.Needs.{needs}
 use Rattle.form.proofs.headed.Statement.{statement}
 use Rattle.form.proofs.headed.Tie as tie
 
-shared-slice-read-if1 : tie.Need-shared-slice-read-if1
-shared-slice-read-if1 c = search needs
-
-shared-slice-read-result : tie.Need-shared-slice-read-result
-shared-slice-read-result c = search needs
-
 returns : tie.Need-returns
 returns c = rw (eq-eqb _ _ (c .before .if1 .taken))
 
@@ -17,4 +11,4 @@ returns-2 : tie.Need-returns-2
 returns-2 c = rw (ne-eqb _ _ (c .if1 .left))
 
 pub headed-spec : {M : Type 1} → statement M
-headed-spec = tie.close (tie.spec shared-slice-read-if1 shared-slice-read-result returns returns-2)
+headed-spec = tie.close (tie.spec (λ c. search needs) (λ c. search needs) returns returns-2)

@@ -4,14 +4,8 @@ use Rattle.gf256.specs.ProductLaws.{double-byte}
 use Rattle.gf256.proofs.double.Statement.{statement}
 use Rattle.gf256.proofs.double.Tie as tie
 
-mul-result : tie.Need-mul-result
-mul-result c = search needs
-
-mul-result-2 : tie.Need-mul-result-2
-mul-result-2 c = search needs
-
 returns : tie.Need-returns
 returns c = double-byte (c .args .x) (search needs)
 
 pub double-spec : {M : Type 1} → statement M
-double-spec = tie.close (tie.spec mul-result mul-result-2 returns)
+double-spec = tie.close (tie.spec (λ c. search needs) (λ c. search needs) returns)

@@ -8,8 +8,5 @@ use Rattle.gf256.proofs.last_bit_times.Tie as tie
 mul-result : tie.Need-mul-result
 mul-result c = omega (arith, bit-times-le (c .args .y) (c .args .x))
 
-returns : tie.Need-returns
-returns c = search needs
-
 pub last-bit-times-spec : {M : Type 1} → statement M
-last-bit-times-spec = tie.close (tie.spec mul-result returns)
+last-bit-times-spec = tie.close (tie.spec mul-result (λ c. search needs))

@@ -18,12 +18,6 @@ loop-holds : tie.Need-loop-holds Inv-loop μ-loop
 unfolding product
 loop-holds c = refl
 
-last-bit-times-requires : tie.Need-last-bit-times-requires Inv-loop μ-loop
-last-bit-times-requires c κs = search needs
-
-double-requires : tie.Need-double-requires Inv-loop μ-loop
-double-requires c κs = search needs
-
 sub-left : tie.Need-sub-left Inv-loop μ-loop
 sub-left c = omega arith
 
@@ -50,8 +44,8 @@ product-spec =
     Inv-loop
     μ-loop
     loop-holds
-    last-bit-times-requires
-    double-requires
+    (λ c κs. search needs)
+    (λ c κs. search needs)
     sub-left
     loop-less
     loop-again

@@ -15,24 +15,6 @@ Inv-loop words bytes w n at t₀ left₀ i₀ t left i = (i + 4 * left ≤ lengt
 abbrev μ-loop : tie.MeasureT-loop
 μ-loop words bytes w n at t₀ left₀ i₀ t left i = left
 
-loop-holds : tie.Need-loop-holds Inv-loop μ-loop
-loop-holds c = search needs
-
-feistel8-requires : tie.Need-feistel8-requires Inv-loop μ-loop
-feistel8-requires c κs = search needs
-
-rotate-left8-requires : tie.Need-rotate-left8-requires Inv-loop μ-loop
-rotate-left8-requires c κs = search needs
-
-sub-left : tie.Need-sub-left Inv-loop μ-loop
-sub-left c = search needs
-
-add-i : tie.Need-add-i Inv-loop μ-loop
-add-i c = search needs
-
-loop-less : tie.Need-loop-less Inv-loop μ-loop
-loop-less c = search needs
-
 loop-again : tie.Need-loop-again Inv-loop μ-loop
 loop-again c =
     let a : tie.At-loop Inv-loop μ-loop = c .before .before .before in
@@ -40,9 +22,6 @@ loop-again c =
       search needs,
       rw (c .rotate-left8 .ensures, c .before .feistel8 .ensures, rounds-step 4 f0 f1) (a .loop .inv .1),
     )
-
-rotate-right8-requires : tie.Need-rotate-right8-requires Inv-loop μ-loop
-rotate-right8-requires c κs = search needs
 
 returns : tie.Need-returns Inv-loop μ-loop
 unfolding network
@@ -57,12 +36,12 @@ network8-spec =
     (tie.spec
     Inv-loop
     μ-loop
-    loop-holds
-    feistel8-requires
-    rotate-left8-requires
-    sub-left
-    add-i
-    loop-less
+    (λ c. search needs)
+    (λ c κs. search needs)
+    (λ c κs. search needs)
+    (λ c. search needs)
+    (λ c. search needs)
+    (λ c. search needs)
     loop-again
-    rotate-right8-requires
+    (λ c κs. search needs)
     returns)

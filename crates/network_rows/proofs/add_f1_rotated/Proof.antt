@@ -3,14 +3,8 @@ use borrow.Author.Needs.{needs}
 use Rattle.network_rows.proofs.add_f1_rotated.Statement.{statement}
 use Rattle.network_rows.proofs.add_f1_rotated.Tie as tie
 
-add-f1-requires : tie.Need-add-f1-requires
-add-f1-requires c κs = search needs
-
-rotate-left4-requires : tie.Need-rotate-left4-requires
-rotate-left4-requires c κs = search needs
-
 returns : tie.Need-returns
 returns c = rw (c .rotate-left4 .ensures, c .before .add-f1 .ensures)
 
 pub add-f1-rotated-spec : {M : Type 1} → statement M
-add-f1-rotated-spec = tie.close (tie.spec add-f1-requires rotate-left4-requires returns)
+add-f1-rotated-spec = tie.close (tie.spec (λ c κs. search needs) (λ c κs. search needs) returns)

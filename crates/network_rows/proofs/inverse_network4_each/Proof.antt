@@ -6,9 +6,6 @@ use borrow.Author.Needs.{needs}
 use Rattle.network_rows.proofs.inverse_network4_each.Statement.{statement}
 use Rattle.network_rows.proofs.inverse_network4_each.Tie as tie
 
-rotate-left-each-requires : tie.Need-rotate-left-each-requires
-rotate-left-each-requires c κs = search needs
-
 undo-by-two-requires : tie.Need-undo-by-two-requires
 undo-by-two-requires c κs = (c .before .before .before .before .pre .0 .words (c .before .before .if1 .taken), search needs)
 
@@ -19,18 +16,6 @@ returns c =
     let e : 2 * (n / 2) ≡ n = search needs in
     rw (c .undo-by-two .ensures, e, c .before .rotate-left-each .ensures)
 
-inverse-network4-requires : tie.Need-inverse-network4-requires
-inverse-network4-requires c κs = search needs
-
-inverse-network4-requires-2 : tie.Need-inverse-network4-requires-2
-inverse-network4-requires-2 c κs = search needs
-
-inverse-network4-requires-3 : tie.Need-inverse-network4-requires-3
-inverse-network4-requires-3 c κs = search needs
-
-inverse-network4-requires-4 : tie.Need-inverse-network4-requires-4
-inverse-network4-requires-4 c κs = search needs
-
 returns-2 : tie.Need-returns-2
 returns-2 c = rw (c .before .before .before .inverse-network4 .ensures, c .before .before .inverse-network42 .ensures, c .before .inverse-network43 .ensures, c .inverse-network44 .ensures)
 
@@ -38,11 +23,11 @@ pub inverse-network4-each-spec : {M : Type 1} → statement M
 inverse-network4-each-spec =
     tie.close
     (tie.spec
-    rotate-left-each-requires
+    (λ c κs. search needs)
     undo-by-two-requires
     returns
-    inverse-network4-requires
-    inverse-network4-requires-2
-    inverse-network4-requires-3
-    inverse-network4-requires-4
+    (λ c κs. search needs)
+    (λ c κs. search needs)
+    (λ c κs. search needs)
+    (λ c κs. search needs)
     returns-2)

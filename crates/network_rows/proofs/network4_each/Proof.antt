@@ -9,27 +9,12 @@ use Rattle.network_rows.proofs.network4_each.Tie as tie
 rounds-by-two-requires : tie.Need-rounds-by-two-requires
 rounds-by-two-requires c κs = (c .before .before .before .pre .0 .words (c .before .if1 .taken), search needs)
 
-rotate-right-each-requires : tie.Need-rotate-right-each-requires
-rotate-right-each-requires c κs = search needs
-
 returns : tie.Need-returns
 unfolding network
 returns c =
     let n = c .before .before .before .before .before .args .n in
     let e : 2 * (n / 2) ≡ n = search needs in
     rw (c .rotate-right-each .ensures, c .before .rounds-by-two .ensures, e)
-
-network4-requires : tie.Need-network4-requires
-network4-requires c κs = search needs
-
-network4-requires-2 : tie.Need-network4-requires-2
-network4-requires-2 c κs = search needs
-
-network4-requires-3 : tie.Need-network4-requires-3
-network4-requires-3 c κs = search needs
-
-network4-requires-4 : tie.Need-network4-requires-4
-network4-requires-4 c κs = search needs
 
 returns-2 : tie.Need-returns-2
 returns-2 c = rw (c .before .before .before .network4 .ensures, c .before .before .network42 .ensures, c .before .network43 .ensures, c .network44 .ensures)
@@ -39,10 +24,10 @@ network4-each-spec =
     tie.close
     (tie.spec
     rounds-by-two-requires
-    rotate-right-each-requires
+    (λ c κs. search needs)
     returns
-    network4-requires
-    network4-requires-2
-    network4-requires-3
-    network4-requires-4
+    (λ c κs. search needs)
+    (λ c κs. search needs)
+    (λ c κs. search needs)
+    (λ c κs. search needs)
     returns-2)

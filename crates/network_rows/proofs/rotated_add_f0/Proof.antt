@@ -3,14 +3,8 @@ use borrow.Author.Needs.{needs}
 use Rattle.network_rows.proofs.rotated_add_f0.Statement.{statement}
 use Rattle.network_rows.proofs.rotated_add_f0.Tie as tie
 
-rotate-right4-requires : tie.Need-rotate-right4-requires
-rotate-right4-requires c κs = search needs
-
-add-f0-requires : tie.Need-add-f0-requires
-add-f0-requires c κs = search needs
-
 returns : tie.Need-returns
 returns c = rw (c .add-f0 .ensures, c .before .rotate-right4 .ensures)
 
 pub rotated-add-f0-spec : {M : Type 1} → statement M
-rotated-add-f0-spec = tie.close (tie.spec rotate-right4-requires add-f0-requires returns)
+rotated-add-f0-spec = tie.close (tie.spec (λ c κs. search needs) (λ c κs. search needs) returns)

@@ -15,54 +15,6 @@ Inv-loop words w n at t₀ left₀ i₀ t left i = (i + 4 * left ≤ length w) �
 abbrev μ-loop : tie.MeasureT-loop
 μ-loop words w n at t₀ left₀ i₀ t left i = left
 
-loop-holds : tie.Need-loop-holds Inv-loop μ-loop
-loop-holds c = search needs
-
-mul-two-rounds : tie.Need-mul-two-rounds Inv-loop μ-loop
-mul-two-rounds c = search needs
-
-shared-slice-read-two-rounds : tie.Need-shared-slice-read-two-rounds Inv-loop μ-loop
-shared-slice-read-two-rounds c = search needs
-
-add-two-rounds : tie.Need-add-two-rounds Inv-loop μ-loop
-add-two-rounds c = search needs
-
-mul-two-rounds-2 : tie.Need-mul-two-rounds-2 Inv-loop μ-loop
-mul-two-rounds-2 c = search needs
-
-shared-slice-read-two-rounds-2 : tie.Need-shared-slice-read-two-rounds-2 Inv-loop μ-loop
-shared-slice-read-two-rounds-2 c = search needs
-
-add-two-rounds-2 : tie.Need-add-two-rounds-2 Inv-loop μ-loop
-add-two-rounds-2 c = search needs
-
-mul-two-rounds-3 : tie.Need-mul-two-rounds-3 Inv-loop μ-loop
-mul-two-rounds-3 c = search needs
-
-shared-slice-read-two-rounds-3 : tie.Need-shared-slice-read-two-rounds-3 Inv-loop μ-loop
-shared-slice-read-two-rounds-3 c = search needs
-
-add-two-rounds-3 : tie.Need-add-two-rounds-3 Inv-loop μ-loop
-add-two-rounds-3 c = search needs
-
-mul-two-rounds-4 : tie.Need-mul-two-rounds-4 Inv-loop μ-loop
-mul-two-rounds-4 c = search needs
-
-shared-slice-read-two-rounds-4 : tie.Need-shared-slice-read-two-rounds-4 Inv-loop μ-loop
-shared-slice-read-two-rounds-4 c = search needs
-
-two-rounds-requires : tie.Need-two-rounds-requires Inv-loop μ-loop
-two-rounds-requires c κs = search needs
-
-sub-left : tie.Need-sub-left Inv-loop μ-loop
-sub-left c = search needs
-
-add-i : tie.Need-add-i Inv-loop μ-loop
-add-i c = search needs
-
-loop-less : tie.Need-loop-less Inv-loop μ-loop
-loop-less c = search needs
-
 loop-again : tie.Need-loop-again Inv-loop μ-loop
 loop-again c =
     let a : tie.At-loop Inv-loop μ-loop = c .before .before .before .before .before .before in
@@ -86,21 +38,21 @@ rounds-by-two-spec =
     (tie.spec
     Inv-loop
     μ-loop
-    loop-holds
-    mul-two-rounds
-    shared-slice-read-two-rounds
-    add-two-rounds
-    mul-two-rounds-2
-    shared-slice-read-two-rounds-2
-    add-two-rounds-2
-    mul-two-rounds-3
-    shared-slice-read-two-rounds-3
-    add-two-rounds-3
-    mul-two-rounds-4
-    shared-slice-read-two-rounds-4
-    two-rounds-requires
-    sub-left
-    add-i
-    loop-less
+    (λ c. search needs)
+    (λ c. search needs)
+    (λ c. search needs)
+    (λ c. search needs)
+    (λ c. search needs)
+    (λ c. search needs)
+    (λ c. search needs)
+    (λ c. search needs)
+    (λ c. search needs)
+    (λ c. search needs)
+    (λ c. search needs)
+    (λ c. search needs)
+    (λ c κs. search needs)
+    (λ c. search needs)
+    (λ c. search needs)
+    (λ c. search needs)
     loop-again
     returns)

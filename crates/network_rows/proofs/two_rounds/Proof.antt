@@ -6,54 +6,6 @@ use Rattle.network_rows.specs.Four.{two-rounds}
 use Rattle.network_rows.proofs.two_rounds.Statement.{statement}
 use Rattle.network_rows.proofs.two_rounds.Tie as tie
 
-add-f0-requires : tie.Need-add-f0-requires
-add-f0-requires c κs = c .before .before .before .before .pre
-
-add-f0-requires-2 : tie.Need-add-f0-requires-2
-add-f0-requires-2 c κs = c .before .before .before .before .before .pre
-
-add-f0-requires-3 : tie.Need-add-f0-requires-3
-add-f0-requires-3 c κs = c .before .before .before .before .before .before .pre
-
-add-f0-requires-4 : tie.Need-add-f0-requires-4
-add-f0-requires-4 c κs = c .before .before .before .before .before .before .before .pre
-
-add-f1-rotated-requires : tie.Need-add-f1-rotated-requires
-add-f1-rotated-requires c κs = c .before .before .before .before .before .before .before .before .pre
-
-add-f1-rotated-requires-2 : tie.Need-add-f1-rotated-requires-2
-add-f1-rotated-requires-2 c κs = c .before .before .before .before .before .before .before .before .before .pre
-
-add-f1-rotated-requires-3 : tie.Need-add-f1-rotated-requires-3
-add-f1-rotated-requires-3 c κs = c .before .before .before .before .before .before .before .before .before .before .pre
-
-add-f1-rotated-requires-4 : tie.Need-add-f1-rotated-requires-4
-add-f1-rotated-requires-4 c κs = c .before .before .before .before .before .before .before .before .before .before .before .pre
-
-add-f0-requires-5 : tie.Need-add-f0-requires-5
-add-f0-requires-5 c κs = c .before .before .before .before .before .before .before .before .before .before .before .before .pre
-
-add-f0-requires-6 : tie.Need-add-f0-requires-6
-add-f0-requires-6 c κs = c .before .before .before .before .before .before .before .before .before .before .before .before .before .pre
-
-add-f0-requires-7 : tie.Need-add-f0-requires-7
-add-f0-requires-7 c κs = c .before .before .before .before .before .before .before .before .before .before .before .before .before .before .pre
-
-add-f0-requires-8 : tie.Need-add-f0-requires-8
-add-f0-requires-8 c κs = c .before .before .before .before .before .before .before .before .before .before .before .before .before .before .before .pre
-
-add-f1-rotated-requires-5 : tie.Need-add-f1-rotated-requires-5
-add-f1-rotated-requires-5 c κs = c .before .before .before .before .before .before .before .before .before .before .before .before .before .before .before .before .pre
-
-add-f1-rotated-requires-6 : tie.Need-add-f1-rotated-requires-6
-add-f1-rotated-requires-6 c κs = c .before .before .before .before .before .before .before .before .before .before .before .before .before .before .before .before .before .pre
-
-add-f1-rotated-requires-7 : tie.Need-add-f1-rotated-requires-7
-add-f1-rotated-requires-7 c κs = c .before .before .before .before .before .before .before .before .before .before .before .before .before .before .before .before .before .before .pre
-
-add-f1-rotated-requires-8 : tie.Need-add-f1-rotated-requires-8
-add-f1-rotated-requires-8 c κs = c .before .before .before .before .before .before .before .before .before .before .before .before .before .before .before .before .before .before .before .pre
-
 module _ (s : tie.Start) where
   long-a : length (s .args .s .a) ≡ 4
   long-a = search needs
@@ -85,20 +37,20 @@ pub two-rounds-spec : {M : Type 1} → statement M
 two-rounds-spec =
     tie.close
     (tie.spec
-    add-f0-requires
-    add-f0-requires-2
-    add-f0-requires-3
-    add-f0-requires-4
-    add-f1-rotated-requires
-    add-f1-rotated-requires-2
-    add-f1-rotated-requires-3
-    add-f1-rotated-requires-4
-    add-f0-requires-5
-    add-f0-requires-6
-    add-f0-requires-7
-    add-f0-requires-8
-    add-f1-rotated-requires-5
-    add-f1-rotated-requires-6
-    add-f1-rotated-requires-7
-    add-f1-rotated-requires-8
+    (λ c κs. c .before .before .before .before .pre)
+    (λ c κs. c .before .before .before .before .before .pre)
+    (λ c κs. c .before .before .before .before .before .before .pre)
+    (λ c κs. c .before .before .before .before .before .before .before .pre)
+    (λ c κs. c .before .before .before .before .before .before .before .before .pre)
+    (λ c κs. c .before .before .before .before .before .before .before .before .before .pre)
+    (λ c κs. c .before .before .before .before .before .before .before .before .before .before .pre)
+    (λ c κs. c .before .before .before .before .before .before .before .before .before .before .before .pre)
+    (λ c κs. c .before .before .before .before .before .before .before .before .before .before .before .before .pre)
+    (λ c κs. c .before .before .before .before .before .before .before .before .before .before .before .before .before .pre)
+    (λ c κs. c .before .before .before .before .before .before .before .before .before .before .before .before .before .before .pre)
+    (λ c κs. c .before .before .before .before .before .before .before .before .before .before .before .before .before .before .before .pre)
+    (λ c κs. c .before .before .before .before .before .before .before .before .before .before .before .before .before .before .before .before .pre)
+    (λ c κs. c .before .before .before .before .before .before .before .before .before .before .before .before .before .before .before .before .before .pre)
+    (λ c κs. c .before .before .before .before .before .before .before .before .before .before .before .before .before .before .before .before .before .before .pre)
+    (λ c κs. c .before .before .before .before .before .before .before .before .before .before .before .before .before .before .before .before .before .before .before .pre)
     returns)

@@ -14,60 +14,9 @@ Inv-loop words w n at t₀ done₀ i₀ t done i = (done ≤ n) × (i + 4 * done
 abbrev μ-loop : tie.MeasureT-loop
 μ-loop words w n at t₀ done₀ i₀ t done i = n - done
 
-mul-i : tie.Need-mul-i Inv-loop μ-loop
-mul-i c = search needs
-
-add-i : tie.Need-add-i Inv-loop μ-loop
-add-i c = search needs
-
 loop-holds : tie.Need-loop-holds Inv-loop μ-loop
 unfolding undoRounds
 loop-holds c = (search needs, search needs, refl)
-
-sub-i : tie.Need-sub-i Inv-loop μ-loop
-sub-i c = search needs
-
-mul-undo-two-rounds : tie.Need-mul-undo-two-rounds Inv-loop μ-loop
-mul-undo-two-rounds c = search needs
-
-shared-slice-read-undo-two-rounds : tie.Need-shared-slice-read-undo-two-rounds Inv-loop μ-loop
-shared-slice-read-undo-two-rounds c = search needs
-
-add-undo-two-rounds : tie.Need-add-undo-two-rounds Inv-loop μ-loop
-add-undo-two-rounds c = search needs
-
-mul-undo-two-rounds-2 : tie.Need-mul-undo-two-rounds-2 Inv-loop μ-loop
-mul-undo-two-rounds-2 c = search needs
-
-shared-slice-read-undo-two-rounds-2 : tie.Need-shared-slice-read-undo-two-rounds-2 Inv-loop μ-loop
-shared-slice-read-undo-two-rounds-2 c = search needs
-
-add-undo-two-rounds-2 : tie.Need-add-undo-two-rounds-2 Inv-loop μ-loop
-add-undo-two-rounds-2 c = search needs
-
-mul-undo-two-rounds-3 : tie.Need-mul-undo-two-rounds-3 Inv-loop μ-loop
-mul-undo-two-rounds-3 c = search needs
-
-shared-slice-read-undo-two-rounds-3 : tie.Need-shared-slice-read-undo-two-rounds-3 Inv-loop μ-loop
-shared-slice-read-undo-two-rounds-3 c = search needs
-
-add-undo-two-rounds-3 : tie.Need-add-undo-two-rounds-3 Inv-loop μ-loop
-add-undo-two-rounds-3 c = search needs
-
-mul-undo-two-rounds-4 : tie.Need-mul-undo-two-rounds-4 Inv-loop μ-loop
-mul-undo-two-rounds-4 c = search needs
-
-shared-slice-read-undo-two-rounds-4 : tie.Need-shared-slice-read-undo-two-rounds-4 Inv-loop μ-loop
-shared-slice-read-undo-two-rounds-4 c = search needs
-
-undo-two-rounds-requires : tie.Need-undo-two-rounds-requires Inv-loop μ-loop
-undo-two-rounds-requires c κs = search needs
-
-add-done : tie.Need-add-done Inv-loop μ-loop
-add-done c = search needs
-
-loop-less : tie.Need-loop-less Inv-loop μ-loop
-loop-less c = search needs
 
 loop-again : tie.Need-loop-again Inv-loop μ-loop
 loop-again c =
@@ -93,23 +42,23 @@ undo-by-two-spec =
     (tie.spec
     Inv-loop
     μ-loop
-    mul-i
-    add-i
+    (λ c. search needs)
+    (λ c. search needs)
     loop-holds
-    sub-i
-    mul-undo-two-rounds
-    shared-slice-read-undo-two-rounds
-    add-undo-two-rounds
-    mul-undo-two-rounds-2
-    shared-slice-read-undo-two-rounds-2
-    add-undo-two-rounds-2
-    mul-undo-two-rounds-3
-    shared-slice-read-undo-two-rounds-3
-    add-undo-two-rounds-3
-    mul-undo-two-rounds-4
-    shared-slice-read-undo-two-rounds-4
-    undo-two-rounds-requires
-    add-done
-    loop-less
+    (λ c. search needs)
+    (λ c. search needs)
+    (λ c. search needs)
+    (λ c. search needs)
+    (λ c. search needs)
+    (λ c. search needs)
+    (λ c. search needs)
+    (λ c. search needs)
+    (λ c. search needs)
+    (λ c. search needs)
+    (λ c. search needs)
+    (λ c. search needs)
+    (λ c κs. search needs)
+    (λ c. search needs)
+    (λ c. search needs)
     loop-again
     returns)

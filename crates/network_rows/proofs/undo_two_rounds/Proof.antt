@@ -6,54 +6,6 @@ use Rattle.network_rows.specs.Four.{two-undone}
 use Rattle.network_rows.proofs.undo_two_rounds.Statement.{statement}
 use Rattle.network_rows.proofs.undo_two_rounds.Tie as tie
 
-rotated-add-f0-requires : tie.Need-rotated-add-f0-requires
-rotated-add-f0-requires c κs = c .before .before .before .before .pre
-
-rotated-add-f0-requires-2 : tie.Need-rotated-add-f0-requires-2
-rotated-add-f0-requires-2 c κs = c .before .before .before .before .before .pre
-
-rotated-add-f0-requires-3 : tie.Need-rotated-add-f0-requires-3
-rotated-add-f0-requires-3 c κs = c .before .before .before .before .before .before .pre
-
-rotated-add-f0-requires-4 : tie.Need-rotated-add-f0-requires-4
-rotated-add-f0-requires-4 c κs = c .before .before .before .before .before .before .before .pre
-
-add-f1-requires : tie.Need-add-f1-requires
-add-f1-requires c κs = c .before .before .before .before .before .before .before .before .pre
-
-add-f1-requires-2 : tie.Need-add-f1-requires-2
-add-f1-requires-2 c κs = c .before .before .before .before .before .before .before .before .before .pre
-
-add-f1-requires-3 : tie.Need-add-f1-requires-3
-add-f1-requires-3 c κs = c .before .before .before .before .before .before .before .before .before .before .pre
-
-add-f1-requires-4 : tie.Need-add-f1-requires-4
-add-f1-requires-4 c κs = c .before .before .before .before .before .before .before .before .before .before .before .pre
-
-rotated-add-f0-requires-5 : tie.Need-rotated-add-f0-requires-5
-rotated-add-f0-requires-5 c κs = c .before .before .before .before .before .before .before .before .before .before .before .before .pre
-
-rotated-add-f0-requires-6 : tie.Need-rotated-add-f0-requires-6
-rotated-add-f0-requires-6 c κs = c .before .before .before .before .before .before .before .before .before .before .before .before .before .pre
-
-rotated-add-f0-requires-7 : tie.Need-rotated-add-f0-requires-7
-rotated-add-f0-requires-7 c κs = c .before .before .before .before .before .before .before .before .before .before .before .before .before .before .pre
-
-rotated-add-f0-requires-8 : tie.Need-rotated-add-f0-requires-8
-rotated-add-f0-requires-8 c κs = c .before .before .before .before .before .before .before .before .before .before .before .before .before .before .before .pre
-
-add-f1-requires-5 : tie.Need-add-f1-requires-5
-add-f1-requires-5 c κs = c .before .before .before .before .before .before .before .before .before .before .before .before .before .before .before .before .pre
-
-add-f1-requires-6 : tie.Need-add-f1-requires-6
-add-f1-requires-6 c κs = c .before .before .before .before .before .before .before .before .before .before .before .before .before .before .before .before .before .pre
-
-add-f1-requires-7 : tie.Need-add-f1-requires-7
-add-f1-requires-7 c κs = c .before .before .before .before .before .before .before .before .before .before .before .before .before .before .before .before .before .before .pre
-
-add-f1-requires-8 : tie.Need-add-f1-requires-8
-add-f1-requires-8 c κs = c .before .before .before .before .before .before .before .before .before .before .before .before .before .before .before .before .before .before .before .pre
-
 module _ (s : tie.Start) where
   long-a : length (s .args .s .a) ≡ 4
   long-a = search needs
@@ -85,20 +37,20 @@ pub undo-two-rounds-spec : {M : Type 1} → statement M
 undo-two-rounds-spec =
     tie.close
     (tie.spec
-    rotated-add-f0-requires
-    rotated-add-f0-requires-2
-    rotated-add-f0-requires-3
-    rotated-add-f0-requires-4
-    add-f1-requires
-    add-f1-requires-2
-    add-f1-requires-3
-    add-f1-requires-4
-    rotated-add-f0-requires-5
-    rotated-add-f0-requires-6
-    rotated-add-f0-requires-7
-    rotated-add-f0-requires-8
-    add-f1-requires-5
-    add-f1-requires-6
-    add-f1-requires-7
-    add-f1-requires-8
+    (λ c κs. c .before .before .before .before .pre)
+    (λ c κs. c .before .before .before .before .before .pre)
+    (λ c κs. c .before .before .before .before .before .before .pre)
+    (λ c κs. c .before .before .before .before .before .before .before .pre)
+    (λ c κs. c .before .before .before .before .before .before .before .before .pre)
+    (λ c κs. c .before .before .before .before .before .before .before .before .before .pre)
+    (λ c κs. c .before .before .before .before .before .before .before .before .before .before .pre)
+    (λ c κs. c .before .before .before .before .before .before .before .before .before .before .before .pre)
+    (λ c κs. c .before .before .before .before .before .before .before .before .before .before .before .before .pre)
+    (λ c κs. c .before .before .before .before .before .before .before .before .before .before .before .before .before .pre)
+    (λ c κs. c .before .before .before .before .before .before .before .before .before .before .before .before .before .before .pre)
+    (λ c κs. c .before .before .before .before .before .before .before .before .before .before .before .before .before .before .before .pre)
+    (λ c κs. c .before .before .before .before .before .before .before .before .before .before .before .before .before .before .before .before .pre)
+    (λ c κs. c .before .before .before .before .before .before .before .before .before .before .before .before .before .before .before .before .before .pre)
+    (λ c κs. c .before .before .before .before .before .before .before .before .before .before .before .before .before .before .before .before .before .before .pre)
+    (λ c κs. c .before .before .before .before .before .before .before .before .before .before .before .before .before .before .before .before .before .before .before .pre)
     returns)

@@ -6,23 +6,8 @@ use Rattle.tasks.specs.Tasks.{expand-key-keyed}
 use Rattle.planbook.proofs.planbook_expand_key.Statement.{statement}
 use Rattle.planbook.proofs.planbook_expand_key.Tie as tie
 
-slice-aggregate-keyed-call : tie.Need-slice-aggregate-keyed-call
-slice-aggregate-keyed-call c = search needs
-
-slice-aggregate-keyed-call-2 : tie.Need-slice-aggregate-keyed-call-2
-slice-aggregate-keyed-call-2 c = search needs
-
-keyed-call-requires : tie.Need-keyed-call-requires
-keyed-call-requires c κs = search needs
-
-number-requires : tie.Need-number-requires
-number-requires c κs = search needs
-
-same-length : tie.Need-same-length
-same-length c = search needs
-
 returns : tie.Need-returns
 returns c = answers (given-same (expand-key-keyed _ _ _) (c .before .before .before .keyed-call .ensures)) (c .number .ensures)
 
 pub planbook-expand-key-spec : {M : Type 1} → statement M
-planbook-expand-key-spec = tie.close (tie.spec slice-aggregate-keyed-call slice-aggregate-keyed-call-2 keyed-call-requires number-requires same-length returns)
+planbook-expand-key-spec = tie.close (tie.spec (λ c. search needs) (λ c. search needs) (λ c κs. search needs) (λ c κs. search needs) (λ c. search needs) returns)

@@ -34,18 +34,6 @@ loop-holds c =
       rw sub-zero,
     )
 
-uses-first-row-requires : tie.Need-uses-first-row-requires Inv-loop μ-loop
-uses-first-row-requires c κs = search needs
-
-step-requires : tie.Need-step-requires Inv-loop μ-loop
-step-requires c κs = search needs
-
-add-i : tie.Need-add-i Inv-loop μ-loop
-add-i c = search needs
-
-loop-less : tie.Need-loop-less Inv-loop μ-loop
-loop-less c = search needs
-
 loop-again : tie.Need-loop-again Inv-loop μ-loop
 loop-again c =
     let i : tie.Then1 Inv-loop μ-loop = c .before .before .before .before in
@@ -59,15 +47,6 @@ loop-again c =
       rw (c .before .before .step .ensures .0, c .before .before .step .ensures .1)
           (fill (s .args .period) (s .args .base) (s .args .con .now) (s .args .n) (a .loop .i) (s .args .k) (s .args .k2) (a .loop .a) (a .loop .b) (a .loop .w) _ (search needs) (search needs) (a .loop .inv .4) true (a .loop .inv .2) (sym (i .before .uses-first-row .ensures) ∙ i .if1 .taken)),
     )
-
-step-requires-2 : tie.Need-step-requires-2 Inv-loop μ-loop
-step-requires-2 c κs = search needs
-
-add-i-2 : tie.Need-add-i-2 Inv-loop μ-loop
-add-i-2 c = search needs
-
-loop-less-2 : tie.Need-loop-less-2 Inv-loop μ-loop
-loop-less-2 c = search needs
 
 loop-again-2 : tie.Need-loop-again-2 Inv-loop μ-loop
 loop-again-2 c =
@@ -100,14 +79,14 @@ round-keys-spec =
     Inv-loop
     μ-loop
     loop-holds
-    uses-first-row-requires
-    step-requires
-    add-i
-    loop-less
+    (λ c κs. search needs)
+    (λ c κs. search needs)
+    (λ c. search needs)
+    (λ c. search needs)
     loop-again
-    step-requires-2
-    add-i-2
-    loop-less-2
+    (λ c κs. search needs)
+    (λ c. search needs)
+    (λ c. search needs)
     loop-again-2
     same-length
     returns)

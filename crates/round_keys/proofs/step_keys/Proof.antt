@@ -6,15 +6,6 @@ use Rattle.clefia_spec.specs.KeySchedule.{stepKeys}
 use Rattle.round_keys.proofs.step_keys.Statement.{statement}
 use Rattle.round_keys.proofs.step_keys.Tie as tie
 
-four-at-requires : tie.Need-four-at-requires
-four-at-requires c κs = search needs
-
-xors4-requires : tie.Need-xors4-requires
-xors4-requires c κs = search needs
-
-xors4-requires-2 : tie.Need-xors4-requires-2
-xors4-requires-2 c κs = search needs
-
 returns : tie.Need-returns
 unfolding stepKeys fourAt
 returns c = rw (c .xors42 .ensures, c .before .before .xors4 .ensures, c .before .before .before .four-at .ensures, eq-eqb _ _ (c .before .if1 .taken))
@@ -25,4 +16,4 @@ returns-2 c = rw (c .before .xors4 .ensures, c .before .before .four-at .ensures
 
 pub step-keys-spec : {M : Type 1} → statement M
 step-keys-spec =
-    tie.close (tie.spec four-at-requires xors4-requires xors4-requires-2 returns returns-2)
+    tie.close (tie.spec (λ c κs. search needs) (λ c κs. search needs) (λ c κs. search needs) returns returns-2)

@@ -13,32 +13,11 @@ Inv-loop book₀ first sheets each last i₀ book i = (i ≤ length book) × (le
 abbrev μ-loop : tie.MeasureT-loop
 μ-loop book₀ first sheets each last i₀ book i = length book - i
 
-loop-holds : tie.Need-loop-holds Inv-loop μ-loop
-loop-holds c = search needs
-
-word-requires : tie.Need-word-requires Inv-loop μ-loop
-word-requires c κs = search needs
-
-byte-of-requires : tie.Need-byte-of-requires Inv-loop μ-loop
-byte-of-requires c κs = search needs
-
-slice-write-book : tie.Need-slice-write-book Inv-loop μ-loop
-slice-write-book c = search needs
-
-add-i : tie.Need-add-i Inv-loop μ-loop
-add-i c = search needs
-
 loop-less : tie.Need-loop-less Inv-loop μ-loop
 loop-less c = simp length-set (omega arith)
 
 loop-again : tie.Need-loop-again Inv-loop μ-loop
 loop-again c = simp length-set (omega arith)
-
-same-length : tie.Need-same-length Inv-loop μ-loop
-same-length c = search needs
-
-returns : tie.Need-returns Inv-loop μ-loop
-returns c = search needs
 
 pub write-book-spec : {M : Type 1} → statement M
 write-book-spec =
@@ -46,12 +25,12 @@ write-book-spec =
     (tie.spec
     Inv-loop
     μ-loop
-    loop-holds
-    word-requires
-    byte-of-requires
-    slice-write-book
-    add-i
+    (λ c. search needs)
+    (λ c κs. search needs)
+    (λ c κs. search needs)
+    (λ c. search needs)
+    (λ c. search needs)
     loop-less
     loop-again
-    same-length
-    returns)
+    (λ c. search needs)
+    (λ c. search needs))

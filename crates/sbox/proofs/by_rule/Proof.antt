@@ -6,12 +6,6 @@ use borrow.Author.Needs.{needs}
 use Rattle.sbox.proofs.by_rule.Statement.{statement}
 use Rattle.sbox.proofs.by_rule.Tie as tie
 
-s0-requires : tie.Need-s0-requires
-s0-requires c κs = search needs
-
-s1-requires : tie.Need-s1-requires
-s1-requires c κs = search needs
-
 returns : tie.Need-returns
 unfolding box
 returns c = let e : c .before .before .args .i ≡ 0 = c .before .if1 .taken in rw e (c .s0 .ensures)
@@ -21,4 +15,4 @@ unfolding box
 returns-2 c = let e : c .before .before .args .i ≡ 1 = omega arith in rw e (c .s1 .ensures)
 
 pub by-rule-spec : {M : Type 1} → statement M
-by-rule-spec = tie.close (tie.spec s0-requires s1-requires returns returns-2)
+by-rule-spec = tie.close (tie.spec (λ c κs. search needs) (λ c κs. search needs) returns returns-2)

@@ -4,14 +4,8 @@ use borrow.Author.Needs.{needs}
 use Rattle.sbox.proofs.by_table.Statement.{statement}
 use Rattle.sbox.proofs.by_table.Tie as tie
 
-mul-result : tie.Need-mul-result
-mul-result c = search needs
-
 index-1-result : tie.Need-index-1-result
 index-1-result c = rw (c .pre .1, length-byteTables) (c .pre .0)
-
-index-2-result : tie.Need-index-2-result
-index-2-result c = search needs
 
 returns : tie.Need-returns
 returns c =
@@ -19,4 +13,4 @@ returns c =
     rw (c .before .pre .1) (byte-at (a .i) (a .x) (search needs) (search needs))
 
 pub by-table-spec : {M : Type 1} → statement M
-by-table-spec = tie.close (tie.spec mul-result index-1-result index-2-result returns)
+by-table-spec = tie.close (tie.spec (λ c. search needs) index-1-result (λ c. search needs) returns)

@@ -18,26 +18,11 @@ expand-short-requires c κs =
     let s : tie.Start = c .before .before .before .before .before in
     (s .pre .0, rw (c .before .if1 .taken) at (s .pre .1 .1))
 
-twenty-four-requires : tie.Need-twenty-four-requires
-twenty-four-requires c κs = search needs
-
-slice-aggregate-expand-long : tie.Need-slice-aggregate-expand-long
-slice-aggregate-expand-long c = search needs
-
-extend-key-requires : tie.Need-extend-key-requires
-extend-key-requires c κs = search needs
-
 expand-long-requires : tie.Need-expand-long-requires
 expand-long-requires c κs =
     let t : tie.Then2 = c .before .before .before .before in
     let s : tie.Start = t .before .before .before .before .before in
     (s .pre .0, (search needs, rw (t .if2 .taken) at (s .pre .1 .1)))
-
-thirty-two-requires : tie.Need-thirty-two-requires
-thirty-two-requires c κs = search needs
-
-slice-aggregate-expand-long-2 : tie.Need-slice-aggregate-expand-long-2
-slice-aggregate-expand-long-2 c = search needs
 
 load-requires-2 : tie.Need-load-requires-2
 load-requires-2 c κs = omega (arith, is-32 (c .before .before))
@@ -48,9 +33,6 @@ expand-long-requires-2 c κs =
     let s : tie.Start = t .before .before .before .before .before in
     (s .pre .0, (search needs, rw (is-32 t) at (s .pre .1 .1)))
 
-same-length : tie.Need-same-length
-same-length c = search needs
-
 returns : tie.Need-returns
 returns c =
     let e : tie.After-expand-short = c .before .before in
@@ -58,9 +40,6 @@ returns c =
     let l : tie.After-load = t .before in
     let s : tie.Start = l .before .before .before in
     rw (e .expand-short .ensures, l .load .ensures) (expand-16 (s .args .key .now) (t .if1 .taken))
-
-same-length-2 : tie.Need-same-length-2
-same-length-2 c = search needs
 
 returns-2 : tie.Need-returns-2
 returns-2 c =
@@ -72,9 +51,6 @@ returns-2 c =
     let s : tie.Start = l .before .before .before in
     rw (e .expand-long .ensures, k .extend-key .ensures, o .twenty-four .ensures, l .load .ensures)
     (expand-24 (s .args .key .now) (t .if2 .taken))
-
-same-length-3 : tie.Need-same-length-3
-same-length-3 c = search needs
 
 returns-3 : tie.Need-returns-3
 returns-3 c =
@@ -93,17 +69,17 @@ expand-key-spec =
     (tie.spec
     load-requires
     expand-short-requires
-    twenty-four-requires
-    slice-aggregate-expand-long
-    extend-key-requires
+    (λ c κs. search needs)
+    (λ c. search needs)
+    (λ c κs. search needs)
     expand-long-requires
-    thirty-two-requires
-    slice-aggregate-expand-long-2
+    (λ c κs. search needs)
+    (λ c. search needs)
     load-requires-2
     expand-long-requires-2
-    same-length
+    (λ c. search needs)
     returns
-    same-length-2
+    (λ c. search needs)
     returns-2
-    same-length-3
+    (λ c. search needs)
     returns-3)

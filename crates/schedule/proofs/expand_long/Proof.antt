@@ -7,31 +7,10 @@ use Rattle.round_keys.specs.Steps.{turns}
 use Rattle.schedule.proofs.expand_long.Statement.{statement}
 use Rattle.schedule.proofs.expand_long.Tie as tie
 
-joined-requires : tie.Need-joined-requires
-joined-requires c κs = search needs
-
-network8-requires : tie.Need-network8-requires
-network8-requires c κs = search needs
-
-xors4-requires : tie.Need-xors4-requires
-xors4-requires c κs = search needs
-
-put-four-requires : tie.Need-put-four-requires
-put-four-requires c κs = search needs
-
-first-half-requires : tie.Need-first-half-requires
-first-half-requires c κs = search needs
-
-second-half-requires : tie.Need-second-half-requires
-second-half-requires c κs = search needs
-
 round-keys-requires : tie.Need-round-keys-requires
 round-keys-requires c κs =
     let p : tie.After-put-four = c .before .before .before .before .before in
     (turns, (search needs, p .put-four .kept .0 ∙ p .before .before .before .before .before .before .before .pre .1 .1))
-
-same-length : tie.Need-same-length
-same-length c = search needs
 
 returns : tie.Need-returns
 unfolding expandLong
@@ -57,12 +36,12 @@ pub expand-long-spec : {M : Type 1} → statement M
 expand-long-spec =
     tie.close
     (tie.spec
-    joined-requires
-    network8-requires
-    xors4-requires
-    put-four-requires
-    first-half-requires
-    second-half-requires
+    (λ c κs. search needs)
+    (λ c κs. search needs)
+    (λ c κs. search needs)
+    (λ c κs. search needs)
+    (λ c κs. search needs)
+    (λ c κs. search needs)
     round-keys-requires
-    same-length
+    (λ c. search needs)
     returns)

@@ -7,28 +7,10 @@ use Rattle.round_keys.specs.Steps.{always}
 use Rattle.schedule.proofs.expand_short.Statement.{statement}
 use Rattle.schedule.proofs.expand_short.Tie as tie
 
-sixteen-requires : tie.Need-sixteen-requires
-sixteen-requires c κs = search needs
-
-slice-aggregate-network4 : tie.Need-slice-aggregate-network4
-slice-aggregate-network4 c = search needs
-
-network4-requires : tie.Need-network4-requires
-network4-requires c κs = search needs
-
-put-four-requires : tie.Need-put-four-requires
-put-four-requires c κs = search needs
-
-slice-aggregate-round-keys : tie.Need-slice-aggregate-round-keys
-slice-aggregate-round-keys c = search needs
-
 round-keys-requires : tie.Need-round-keys-requires
 round-keys-requires c κs =
     let p : tie.After-put-four = c .before .before .before .before in
     (always, (search needs, p .put-four .kept .0 ∙ p .before .before .before .before .before .before .pre .1))
-
-same-length : tie.Need-same-length
-same-length c = search needs
 
 returns : tie.Need-returns
 unfolding expandShort
@@ -50,11 +32,11 @@ pub expand-short-spec : {M : Type 1} → statement M
 expand-short-spec =
     tie.close
     (tie.spec
-    sixteen-requires
-    slice-aggregate-network4
-    network4-requires
-    put-four-requires
-    slice-aggregate-round-keys
+    (λ c κs. search needs)
+    (λ c. search needs)
+    (λ c κs. search needs)
+    (λ c κs. search needs)
+    (λ c. search needs)
     round-keys-requires
-    same-length
+    (λ c. search needs)
     returns)

@@ -5,20 +5,8 @@ use borrow.Author.Needs.{needs}
 use Rattle.sheet_recode.proofs.begin.Statement.{statement}
 use Rattle.sheet_recode.proofs.begin.Tie as tie
 
-write-fours-requires : tie.Need-write-fours-requires
-write-fours-requires c κs = search needs
-
-same-length : tie.Need-same-length
-same-length c = search needs
-
 returns : tie.Need-returns
 returns c = rw (c .before .before .before .before .before .if1 .taken) (c .before .before .write-fours .ensures)
-
-half-requires : tie.Need-half-requires
-half-requires c κs = search needs
-
-new-requires : tie.Need-new-requires
-new-requires c κs = search needs
 
 returns-2 : tie.Need-returns-2
 returns-2 c =
@@ -29,4 +17,4 @@ returns-2 c =
 pub begin-spec : {M : Type 1} → statement M
 begin-spec =
     tie.close
-    (tie.spec write-fours-requires same-length returns half-requires new-requires returns-2)
+    (tie.spec (λ c κs. search needs) (λ c. search needs) returns (λ c κs. search needs) (λ c κs. search needs) returns-2)

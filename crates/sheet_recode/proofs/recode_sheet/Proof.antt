@@ -18,38 +18,11 @@ Inv-loop decrypting words bytes w entry body out₀ left₀ at₀ chain₀ block
 abbrev μ-loop : tie.MeasureT-loop
 μ-loop decrypting words bytes w entry body out₀ left₀ at₀ chain₀ block₀ out left at chain block = left
 
-begin-requires : tie.Need-begin-requires Inv-loop μ-loop
-begin-requires c κs = search needs
-
-same-length : tie.Need-same-length Inv-loop μ-loop
-same-length c = search needs
-
 returns : tie.Need-returns Inv-loop μ-loop
 returns c = chain-end _ (c .before .before .before .begin .ensures) (c .if1 .taken)
 
-load-requires : tie.Need-load-requires Inv-loop μ-loop
-load-requires c κs = search needs
-
 loop-holds : tie.Need-loop-holds Inv-loop μ-loop
 loop-holds c = (c .before .before .before .before .before .begin .ensures, λ k. c .load .ensures)
-
-add-end : tie.Need-add-end Inv-loop μ-loop
-add-end c = search needs
-
-recode-requires : tie.Need-recode-requires Inv-loop μ-loop
-recode-requires c κs = search needs
-
-following-requires : tie.Need-following-requires Inv-loop μ-loop
-following-requires c κs = search needs
-
-sub-exchange : tie.Need-sub-exchange Inv-loop μ-loop
-sub-exchange c = search needs
-
-part-exchange-start : tie.Need-part-exchange-start Inv-loop μ-loop
-part-exchange-start c = search needs
-
-part-exchange-end : tie.Need-part-exchange-end Inv-loop μ-loop
-part-exchange-end c = search needs
 
 exchange-requires : tie.Need-exchange-requires Inv-loop μ-loop
 exchange-requires c κs =
@@ -61,12 +34,6 @@ exchange-requires c κs =
       part-length 16 (a .loop .at) (a .loop .out) refl (omega (arith, a .loop .inv .0 .size)),
       ahead-fits (a .loop .left - 1) (omega arith) (omega arith) (c .before .following .ensures .0) (c .before .following .ensures .1),
     )
-
-sub-left : tie.Need-sub-left Inv-loop μ-loop
-sub-left c = search needs
-
-loop-less : tie.Need-loop-less Inv-loop μ-loop
-loop-less c = search needs
 
 loop-again : tie.Need-loop-again Inv-loop μ-loop
 loop-again c =
@@ -96,20 +63,20 @@ recode-sheet-spec =
     (tie.spec
     Inv-loop
     μ-loop
-    begin-requires
-    same-length
+    (λ c κs. search needs)
+    (λ c. search needs)
     returns
-    load-requires
+    (λ c κs. search needs)
     loop-holds
-    add-end
-    recode-requires
-    following-requires
-    sub-exchange
-    part-exchange-start
-    part-exchange-end
+    (λ c. search needs)
+    (λ c κs. search needs)
+    (λ c κs. search needs)
+    (λ c. search needs)
+    (λ c. search needs)
+    (λ c. search needs)
     exchange-requires
-    sub-left
-    loop-less
+    (λ c. search needs)
+    (λ c. search needs)
     loop-again
     same-length-2
     returns-2)

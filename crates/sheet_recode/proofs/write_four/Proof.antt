@@ -10,34 +10,10 @@ use borrow.Author.Needs.{needs}
 use Rattle.sheet_recode.proofs.write_four.Statement.{statement}
 use Rattle.sheet_recode.proofs.write_four.Tie as tie
 
-decrypt-four-requires : tie.Need-decrypt-four-requires
-decrypt-four-requires c κs = search needs
-
-add-second : tie.Need-add-second
-add-second c = search needs
-
-add-third : tie.Need-add-third
-add-third c = search needs
-
-add-fourth : tie.Need-add-fourth
-add-fourth c = search needs
-
-write-clear-requires : tie.Need-write-clear-requires
-write-clear-requires c κs = search needs
-
-write-clear-requires-2 : tie.Need-write-clear-requires-2
-write-clear-requires-2 c κs = search needs
-
-write-clear-requires-3 : tie.Need-write-clear-requires-3
-write-clear-requires-3 c κs = search needs
-
 write-clear-requires-4 : tie.Need-write-clear-requires-4
 write-clear-requires-4 c κs =
     let s : tie.Start = c .before .before .before .before .before .before .before .before .before .before .before .before .before .before .before .before .before .before .before .before .before in
     (omega (arith, s .pre .1 .1), omega (arith, s .pre .1 .2, c .before .before .out3 .given, c .before .before .before .before .before .before .out2 .given, c .before .before .before .before .before .before .before .before .before .before .out .given))
-
-same-length : tie.Need-same-length
-same-length c = search needs
 
 returns : tie.Need-returns
 returns c e left size k h =
@@ -61,13 +37,13 @@ pub write-four-spec : {M : Type 1} → statement M
 write-four-spec =
     tie.close
     (tie.spec
-    decrypt-four-requires
-    add-second
-    add-third
-    add-fourth
-    write-clear-requires
-    write-clear-requires-2
-    write-clear-requires-3
+    (λ c κs. search needs)
+    (λ c. search needs)
+    (λ c. search needs)
+    (λ c. search needs)
+    (λ c κs. search needs)
+    (λ c κs. search needs)
+    (λ c κs. search needs)
     write-clear-requires-4
-    same-length
+    (λ c. search needs)
     returns)

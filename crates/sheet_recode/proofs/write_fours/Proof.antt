@@ -13,26 +13,11 @@ Inv-loop words bytes w entry body out₀ left₀ previous₀ at₀ out left prev
 abbrev μ-loop : tie.MeasureT-loop
 μ-loop words bytes w entry body out₀ left₀ previous₀ at₀ out left previous at = left
 
-half-requires : tie.Need-half-requires Inv-loop μ-loop
-half-requires c κs = search needs
-
-new-requires : tie.Need-new-requires Inv-loop μ-loop
-new-requires c κs = search needs
-
 loop-holds : tie.Need-loop-holds Inv-loop μ-loop
 loop-holds c =
     let s : tie.Start Inv-loop μ-loop = c .before .before .before .before .before .before .before in
     rw (c .before .before .half .ensures, c .before .new .ensures)
     (chain-start true (s .args .w .now) (s .args .body .now) (below-all (s .args .entry .now) (λ j k. c .before .before .before .before .before .shared-slice-known2 .given j .fits)) (s .pre .1 .0 .1) (s .pre .1 .1 .1))
-
-write-four-requires : tie.Need-write-four-requires Inv-loop μ-loop
-write-four-requires c κs = search needs
-
-add-at : tie.Need-add-at Inv-loop μ-loop
-add-at c = search needs
-
-loop-less : tie.Need-loop-less Inv-loop μ-loop
-loop-less c = search needs
 
 loop-again : tie.Need-loop-again Inv-loop μ-loop
 loop-again c =
@@ -52,12 +37,12 @@ write-fours-spec =
     (tie.spec
     Inv-loop
     μ-loop
-    half-requires
-    new-requires
+    (λ c κs. search needs)
+    (λ c κs. search needs)
     loop-holds
-    write-four-requires
-    add-at
-    loop-less
+    (λ c κs. search needs)
+    (λ c. search needs)
+    (λ c. search needs)
     loop-again
     same-length
     returns)

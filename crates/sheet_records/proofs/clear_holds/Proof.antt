@@ -3,14 +3,8 @@ use borrow.Author.Needs.{needs}
 use Rattle.sheet_records.proofs.clear_holds.Statement.{statement}
 use Rattle.sheet_records.proofs.clear_holds.Tie as tie
 
-xors4-requires : tie.Need-xors4-requires
-xors4-requires c κs = search needs
-
-record-holds-requires : tie.Need-record-holds-requires
-record-holds-requires c κs = search needs
-
 returns : tie.Need-returns
 returns c e h = rw (c .before .xors4 .ensures) at (c .record-holds .ensures e h)
 
 pub clear-holds-spec : {M : Type 1} → statement M
-clear-holds-spec = tie.close (tie.spec xors4-requires record-holds-requires returns)
+clear-holds-spec = tie.close (tie.spec (λ c κs. search needs) (λ c κs. search needs) returns)

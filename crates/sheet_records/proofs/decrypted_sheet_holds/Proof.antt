@@ -15,15 +15,6 @@ Inv-loop words bytes w entry body sheet previous₀ left₀ at₀ holds₀ fours
 abbrev μ-loop : tie.MeasureT-loop
 μ-loop words bytes w entry body sheet previous₀ left₀ at₀ holds₀ fours₀ previous left at holds fours = fours
 
-read-sheet-requires : tie.Need-read-sheet-requires Inv-loop μ-loop
-read-sheet-requires c κs = search needs
-
-new-requires : tie.Need-new-requires Inv-loop μ-loop
-new-requires c κs = search needs
-
-fours-requires : tie.Need-fours-requires Inv-loop μ-loop
-fours-requires c κs = search needs
-
 -- before the first record
 begun : (c : tie.After-previous Inv-loop μ-loop) →
     let s : tie.Start Inv-loop μ-loop = c .before .before .before .before .before .before in
@@ -35,27 +26,6 @@ begun c =
 
 loop-holds : tie.Need-loop-holds Inv-loop μ-loop
 loop-holds c = (c .before .before .before .read-sheet .ensures, begun (c .before), c .fours .ensures)
-
-four-hold-requires : tie.Need-four-hold-requires Inv-loop μ-loop
-four-hold-requires c κs = search needs
-
-add-load : tie.Need-add-load Inv-loop μ-loop
-add-load c = search needs
-
-load-requires : tie.Need-load-requires Inv-loop μ-loop
-load-requires c κs = search needs
-
-sub-left : tie.Need-sub-left Inv-loop μ-loop
-sub-left c = search needs
-
-add-at : tie.Need-add-at Inv-loop μ-loop
-add-at c = search needs
-
-sub-fours : tie.Need-sub-fours Inv-loop μ-loop
-sub-fours c = search needs
-
-loop-less : tie.Need-loop-less Inv-loop μ-loop
-loop-less c = search needs
 
 loop-again : tie.Need-loop-again Inv-loop μ-loop
 loop-again c =
@@ -78,17 +48,17 @@ decrypted-sheet-holds-spec =
     (tie.spec
     Inv-loop
     μ-loop
-    read-sheet-requires
-    new-requires
-    fours-requires
+    (λ c κs. search needs)
+    (λ c κs. search needs)
+    (λ c κs. search needs)
     loop-holds
-    four-hold-requires
-    add-load
-    load-requires
-    sub-left
-    add-at
-    sub-fours
-    loop-less
+    (λ c κs. search needs)
+    (λ c. search needs)
+    (λ c κs. search needs)
+    (λ c. search needs)
+    (λ c. search needs)
+    (λ c. search needs)
+    (λ c. search needs)
     loop-again
     rest-holds-requires
     returns)

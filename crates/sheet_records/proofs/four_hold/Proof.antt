@@ -10,39 +10,6 @@ use borrow.Author.Needs.{needs}
 use Rattle.sheet_records.proofs.four_hold.Statement.{statement}
 use Rattle.sheet_records.proofs.four_hold.Tie as tie
 
-decrypt-four-requires : tie.Need-decrypt-four-requires
-decrypt-four-requires c κs = search needs
-
-add-second : tie.Need-add-second
-add-second c = search needs
-
-add-third : tie.Need-add-third
-add-third c = search needs
-
-clear-holds-requires : tie.Need-clear-holds-requires
-clear-holds-requires c κs = search needs
-
-load-requires : tie.Need-load-requires
-load-requires c κs = search needs
-
-clear-holds-requires-2 : tie.Need-clear-holds-requires-2
-clear-holds-requires-2 c κs = search needs
-
-load-requires-2 : tie.Need-load-requires-2
-load-requires-2 c κs = search needs
-
-clear-holds-requires-3 : tie.Need-clear-holds-requires-3
-clear-holds-requires-3 c κs = search needs
-
-load-requires-3 : tie.Need-load-requires-3
-load-requires-3 c κs = search needs
-
-clear-holds-requires-4 : tie.Need-clear-holds-requires-4
-clear-holds-requires-4 c κs = search needs
-
-all-requires : tie.Need-all-requires
-all-requires c κs = search needs
-
 returns : tie.Need-returns
 returns c e left known size o h =
     let s : tie.Start = c .before .before .before .before .before .before .before .before .before .before .before .before .before .before .before in
@@ -66,15 +33,15 @@ pub four-hold-spec : {M : Type 1} → statement M
 four-hold-spec =
     tie.close
     (tie.spec
-    decrypt-four-requires
-    add-second
-    add-third
-    clear-holds-requires
-    load-requires
-    clear-holds-requires-2
-    load-requires-2
-    clear-holds-requires-3
-    load-requires-3
-    clear-holds-requires-4
-    all-requires
+    (λ c κs. search needs)
+    (λ c. search needs)
+    (λ c. search needs)
+    (λ c κs. search needs)
+    (λ c κs. search needs)
+    (λ c κs. search needs)
+    (λ c κs. search needs)
+    (λ c κs. search needs)
+    (λ c κs. search needs)
+    (λ c κs. search needs)
+    (λ c κs. search needs)
     returns)

@@ -44,23 +44,8 @@ tested c =
     ∙ ap (λ (x : Step). recordHolds (s .args .entry .now) (bytesOf (x .block))) (d .decrypt .ensures)
     ∙ ap (λ (b : List ℕ). recordHolds (s .args .entry .now) (bytesOf (xors (a .loop .chain .previous) (decryptWords (s .args .w .now) b)))) (d .before .load .ensures)
 
-read-sheet-requires : tie.Need-read-sheet-requires Inv-loop μ-loop
-read-sheet-requires c κs = search needs
-
 loop-holds : tie.Need-loop-holds Inv-loop μ-loop
 loop-holds c = (c .read-sheet .ensures, c .before .before .before .before .pre .1 .1 .1)
-
-add-end : tie.Need-add-end Inv-loop μ-loop
-add-end c = search needs
-
-load-requires : tie.Need-load-requires Inv-loop μ-loop
-load-requires c κs = search needs
-
-decrypt-requires : tie.Need-decrypt-requires Inv-loop μ-loop
-decrypt-requires c κs = search needs
-
-record-holds-requires : tie.Need-record-holds-requires Inv-loop μ-loop
-record-holds-requires c κs = search needs
 
 -- the record that was decrypted at `at` has been looked at
 looked : (c : tie.After-record-holds Inv-loop μ-loop) →
@@ -76,12 +61,6 @@ returns c =
     let s : tie.Start Inv-loop μ-loop = start (c .before .before .before .before .before .before) in
     let b : (s .args .held && c .before .record-holds .result) ≡ false = ap (λ (x : Bool). s .args .held && x) (not-true _ (c .if1 .taken)) ∙ and-false (s .args .held) in
     sym b ∙ decrypted-broken (looked (c .before)) b
-
-sub-left : tie.Need-sub-left Inv-loop μ-loop
-sub-left c = search needs
-
-loop-less : tie.Need-loop-less Inv-loop μ-loop
-loop-less c = search needs
 
 loop-again : tie.Need-loop-again Inv-loop μ-loop
 loop-again c =
@@ -100,14 +79,14 @@ rest-holds-spec =
     (tie.spec
     Inv-loop
     μ-loop
-    read-sheet-requires
+    (λ c κs. search needs)
     loop-holds
-    add-end
-    load-requires
-    decrypt-requires
-    record-holds-requires
+    (λ c. search needs)
+    (λ c κs. search needs)
+    (λ c κs. search needs)
+    (λ c κs. search needs)
     returns
-    sub-left
-    loop-less
+    (λ c. search needs)
+    (λ c. search needs)
     loop-again
     returns-2)

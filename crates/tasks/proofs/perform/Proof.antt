@@ -36,46 +36,22 @@ finished : (e : tie.After-expand-key) {t : Task} {exit : List ℕ} {r : Answer} 
     → Given (performed (start e .args .task) (start e .args .key .now) (start e .args .iv .now) (start e .args .src .now) (start e .args .out .now)) (start e .args .out .now) r exit
 finished e h g = given-performed _ _ _ _ h (e .expand-key .ensures) (count e) g
 
-expand-key-requires : tie.Need-expand-key-requires
-expand-key-requires c κs = search needs
-
-enum-told : tie.Need-enum-told
-enum-told c = search needs
-
 write-words-requires : tie.Need-write-words-requires
 write-words-requires c κs =
     let e : tie.After-expand-key = c .before .before .before .before .before .before in
     le-trans (expanded-range (start e .pre .1 .0) (count e) .1) (lit≤ tt)
 
-enum-told-2 : tie.Need-enum-told-2
-enum-told-2 c = search needs
-
 code-block-requires : tie.Need-code-block-requires
 code-block-requires c κs = ready (c .before .before .before .before .before .before)
-
-enum-told-3 : tie.Need-enum-told-3
-enum-told-3 c = search needs
 
 code-block-requires-2 : tie.Need-code-block-requires-2
 code-block-requires-2 c κs = ready (c .before .before .before .before .before .before)
 
-enum-told-4 : tie.Need-enum-told-4
-enum-told-4 c = search needs
-
 encrypt-book-requires : tie.Need-encrypt-book-requires
 encrypt-book-requires c κs = ready (c .before .before .before .before .before .before)
 
-enum-told-5 : tie.Need-enum-told-5
-enum-told-5 c = search needs
-
 decrypt-book-requires : tie.Need-decrypt-book-requires
 decrypt-book-requires c κs = ready (c .before .before .before .before .before .before)
-
-same-length : tie.Need-same-length
-same-length c = search needs
-
-same-length-2 : tie.Need-same-length-2
-same-length-2 c = search needs
 
 returns : tie.Need-returns
 unfolding under
@@ -83,23 +59,11 @@ returns c =
     let a : tie.After-write-words = c .before .before in
     finished (a .before .before .before .before .before .before .before) (a .before .before .before .enum-told .given .1) (a .write-words .ensures)
 
-same-length-3 : tie.Need-same-length-3
-same-length-3 c = search needs
-
-same-length-4 : tie.Need-same-length-4
-same-length-4 c = search needs
-
 returns-2 : tie.Need-returns-2
 unfolding under
 returns-2 c =
     let a : tie.After-code-block = c .before .before in
     finished (a .before .before .before .before .before .before .before) (a .before .before .before .enum-told2 .given .1) (a .code-block .ensures)
-
-same-length-5 : tie.Need-same-length-5
-same-length-5 c = search needs
-
-same-length-6 : tie.Need-same-length-6
-same-length-6 c = search needs
 
 returns-3 : tie.Need-returns-3
 unfolding under
@@ -107,23 +71,11 @@ returns-3 c =
     let a : tie.After-code-block2 = c .before .before in
     finished (a .before .before .before .before .before .before .before) (a .before .before .before .enum-told3 .given .1) (a .code-block2 .ensures)
 
-same-length-7 : tie.Need-same-length-7
-same-length-7 c = search needs
-
-same-length-8 : tie.Need-same-length-8
-same-length-8 c = search needs
-
 returns-4 : tie.Need-returns-4
 unfolding under
 returns-4 c =
     let a : tie.After-encrypt-book = c .before .before in
     finished (a .before .before .before .before .before .before .before) (a .before .before .before .enum-told4 .given .1) (a .encrypt-book .ensures)
-
-same-length-9 : tie.Need-same-length-9
-same-length-9 c = search needs
-
-same-length-10 : tie.Need-same-length-10
-same-length-10 c = search needs
 
 returns-5 : tie.Need-returns-5
 unfolding under
@@ -135,29 +87,29 @@ pub perform-spec : {M : Type 1} → statement M
 perform-spec =
     tie.close
     (tie.spec
-    expand-key-requires
-    enum-told
+    (λ c κs. search needs)
+    (λ c. search needs)
     write-words-requires
-    enum-told-2
+    (λ c. search needs)
     code-block-requires
-    enum-told-3
+    (λ c. search needs)
     code-block-requires-2
-    enum-told-4
+    (λ c. search needs)
     encrypt-book-requires
-    enum-told-5
+    (λ c. search needs)
     decrypt-book-requires
-    same-length
-    same-length-2
+    (λ c. search needs)
+    (λ c. search needs)
     returns
-    same-length-3
-    same-length-4
+    (λ c. search needs)
+    (λ c. search needs)
     returns-2
-    same-length-5
-    same-length-6
+    (λ c. search needs)
+    (λ c. search needs)
     returns-3
-    same-length-7
-    same-length-8
+    (λ c. search needs)
+    (λ c. search needs)
     returns-4
-    same-length-9
-    same-length-10
+    (λ c. search needs)
+    (λ c. search needs)
     returns-5)

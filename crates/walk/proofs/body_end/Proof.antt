@@ -12,12 +12,6 @@ counted : (c : tie.After-half) → c .half .result ≡ count (entryAt (c .before
 counted c =
     c .half .ensures ∙ sym (number-piece 4 2 24 (c .before .before .args .from) (c .before .before .args .book .now) (omega arith))
 
-add-half : tie.Need-add-half
-add-half c = search needs
-
-half-requires : tie.Need-half-requires
-half-requires c κs = search needs
-
 mul-result : tie.Need-mul-result
 mul-result c = let e : c .half .result ≡ _ = counted c in search needs
 
@@ -28,4 +22,4 @@ returns : tie.Need-returns
 returns c = let e : c .half .result ≡ _ = counted c in search needs
 
 pub body-end-spec : {M : Type 1} → statement M
-body-end-spec = tie.close (tie.spec add-half half-requires mul-result add-result returns)
+body-end-spec = tie.close (tie.spec (λ c. search needs) (λ c κs. search needs) mul-result add-result returns)

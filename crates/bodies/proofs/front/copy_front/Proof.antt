@@ -22,29 +22,8 @@ Inv-loop mark book out₀ end i₀ out i = (end ≡ 4 + 24 * sheetCount book) ×
 abbrev μ-loop : tie.MeasureT-loop
 μ-loop mark book out₀ end i₀ out i = end - i
 
-half-requires : tie.Need-half-requires Inv-loop μ-loop
-half-requires c κs = search needs
-
-mul-end : tie.Need-mul-end Inv-loop μ-loop
-mul-end c = search needs
-
-add-end : tie.Need-add-end Inv-loop μ-loop
-add-end c = search needs
-
 loop-holds : tie.Need-loop-holds Inv-loop μ-loop
 loop-holds c = (ap (λ (n : ℕ). 4 + 24 * n) (c .half .ensures), search needs, refl, refl)
-
-shared-slice-read-out : tie.Need-shared-slice-read-out Inv-loop μ-loop
-shared-slice-read-out c = search needs
-
-slice-write-out : tie.Need-slice-write-out Inv-loop μ-loop
-slice-write-out c = search needs
-
-add-i : tie.Need-add-i Inv-loop μ-loop
-add-i c = search needs
-
-loop-less : tie.Need-loop-less Inv-loop μ-loop
-loop-less c = search needs
 
 loop-again : tie.Need-loop-again Inv-loop μ-loop
 loop-again c =
@@ -54,12 +33,6 @@ loop-again c =
       simp length-set (a .loop .inv .2),
       one-more (a .loop .i) (a .loop .out) (a .before .before .before .before .args .book .now) (search needs) (search needs) (a .loop .inv .3),
     )
-
-slice-write-out-2 : tie.Need-slice-write-out-2 Inv-loop μ-loop
-slice-write-out-2 c = search needs
-
-same-length : tie.Need-same-length Inv-loop μ-loop
-same-length c = search needs
 
 returns : tie.Need-returns Inv-loop μ-loop
 returns c =
@@ -73,15 +46,15 @@ copy-front-spec =
     (tie.spec
     Inv-loop
     μ-loop
-    half-requires
-    mul-end
-    add-end
+    (λ c κs. search needs)
+    (λ c. search needs)
+    (λ c. search needs)
     loop-holds
-    shared-slice-read-out
-    slice-write-out
-    add-i
-    loop-less
+    (λ c. search needs)
+    (λ c. search needs)
+    (λ c. search needs)
+    (λ c. search needs)
     loop-again
-    slice-write-out-2
-    same-length
+    (λ c. search needs)
+    (λ c. search needs)
     returns)

@@ -3,11 +3,8 @@ use borrow.Author.Needs.{needs}
 use Rattle.chain.proofs.Chain.new.Statement.{statement}
 use Rattle.chain.proofs.Chain.new.Tie as tie
 
-load-requires : tie.Need-load-requires
-load-requires c κs = search needs
-
 returns : tie.Need-returns
 returns c = c .load .ensures
 
 pub new-spec : {M : Type 1} → statement M
-new-spec = tie.close (tie.spec load-requires returns)
+new-spec = tie.close (tie.spec (λ c κs. search needs) returns)

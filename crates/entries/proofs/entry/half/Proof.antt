@@ -5,18 +5,6 @@ use borrow.Author.Needs.{needs}
 use Rattle.entries.proofs.entry.half.Statement.{statement}
 use Rattle.entries.proofs.entry.half.Tie as tie
 
-shared-slice-read-join : tie.Need-shared-slice-read-join
-shared-slice-read-join c = search needs
-
-add-join : tie.Need-add-join
-add-join c = search needs
-
-shared-slice-read-join-2 : tie.Need-shared-slice-read-join-2
-shared-slice-read-join-2 c = search needs
-
-join-requires : tie.Need-join-requires
-join-requires c κs = search needs
-
 returns : tie.Need-returns
 returns c =
     let a : tie.Start = c .before .before .before .before in
@@ -25,4 +13,4 @@ returns c =
 pub half-spec : {M : Type 1} → statement M
 half-spec =
     tie.close
-    (tie.spec shared-slice-read-join add-join shared-slice-read-join-2 join-requires returns)
+    (tie.spec (λ c. search needs) (λ c. search needs) (λ c. search needs) (λ c κs. search needs) returns)

@@ -40,34 +40,16 @@ tested c =
     ∙ ap (λ (l : List ℕ). recordHolds (entry i) (bytesOf l)) (c .before .load .ensures)
     ∙ ap (recordHolds (entry i)) (block-at (drop (i .before .loop .at) (body i)) (below-drop (i .before .loop .at) (bytes i)) h)
 
-read-sheet-requires : tie.Need-read-sheet-requires Inv-loop μ-loop
-read-sheet-requires c κs = search needs
-
 loop-holds : tie.Need-loop-holds Inv-loop μ-loop
 loop-holds c =
     let s : c .read-sheet .result ≡ _ = c .read-sheet .ensures in
     (rw s (omega arith), s, rw s refl)
-
-load-requires : tie.Need-load-requires Inv-loop μ-loop
-load-requires c κs = search needs
-
-record-holds-requires : tie.Need-record-holds-requires Inv-loop μ-loop
-record-holds-requires c κs = search needs
 
 returns : tie.Need-returns Inv-loop μ-loop
 returns c =
     let i : tie.In-loop Inv-loop μ-loop = c .before .before .before in
     sym (records-next (entry i) (i .before .loop .left) (i .before .loop .at) (body i) (search needs) (sym (tested (c .before)) ∙ not-true _ (c .if1 .taken)))
     ∙ i .before .loop .inv .2
-
-add-at : tie.Need-add-at Inv-loop μ-loop
-add-at c = search needs
-
-sub-left : tie.Need-sub-left Inv-loop μ-loop
-sub-left c = search needs
-
-loop-less : tie.Need-loop-less Inv-loop μ-loop
-loop-less c = search needs
 
 loop-again : tie.Need-loop-again Inv-loop μ-loop
 loop-again c =
@@ -88,13 +70,13 @@ clear-sheet-holds-spec =
     (tie.spec
     Inv-loop
     μ-loop
-    read-sheet-requires
+    (λ c κs. search needs)
     loop-holds
-    load-requires
-    record-holds-requires
+    (λ c κs. search needs)
+    (λ c κs. search needs)
     returns
-    add-at
-    sub-left
-    loop-less
+    (λ c. search needs)
+    (λ c. search needs)
+    (λ c. search needs)
     loop-again
     returns-2)

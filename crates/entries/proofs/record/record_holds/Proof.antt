@@ -9,21 +9,6 @@ use borrow.Author.Needs.{needs, elem-fits}
 use Rattle.entries.proofs.record.record_holds.Statement.{statement}
 use Rattle.entries.proofs.record.record_holds.Tie as tie
 
-array-read-replicate : tie.Need-array-read-replicate
-array-read-replicate c = search needs
-
-array-read-all : tie.Need-array-read-all
-array-read-all c = search needs
-
-array-read-all-2 : tie.Need-array-read-all-2
-array-read-all-2 c = search needs
-
-array-read-all-3 : tie.Need-array-read-all-3
-array-read-all-3 c = search needs
-
-all-requires : tie.Need-all-requires
-all-requires c κs = search needs
-
 returns : tie.Need-returns
 returns c =
     let a : tie.Start = c .before .before in
@@ -34,9 +19,9 @@ pub record-holds-spec : {M : Type 1} → statement M
 record-holds-spec =
     tie.close
     (tie.spec
-    array-read-replicate
-    array-read-all
-    array-read-all-2
-    array-read-all-3
-    all-requires
+    (λ c. search needs)
+    (λ c. search needs)
+    (λ c. search needs)
+    (λ c. search needs)
+    (λ c κs. search needs)
     returns)

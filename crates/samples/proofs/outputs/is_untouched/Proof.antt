@@ -18,9 +18,6 @@ loop-holds c = omega arith
 shared-slice-read-if1 : tie.Need-shared-slice-read-if1 Inv-loop μ-loop
 shared-slice-read-if1 c = omega arith
 
-returns : tie.Need-returns Inv-loop μ-loop
-returns c = search needs
-
 add-i : tie.Need-add-i Inv-loop μ-loop
 add-i c = omega arith
 
@@ -30,9 +27,6 @@ loop-less c = omega arith
 loop-again : tie.Need-loop-again Inv-loop μ-loop
 loop-again c = omega arith
 
-returns-2 : tie.Need-returns-2 Inv-loop μ-loop
-returns-2 c = search needs
-
 pub is-untouched-spec : {M : Type 1} → statement M
 is-untouched-spec =
     tie.close
@@ -41,8 +35,8 @@ is-untouched-spec =
     μ-loop
     loop-holds
     shared-slice-read-if1
-    returns
+    (λ c. search needs)
     add-i
     loop-less
     loop-again
-    returns-2)
+    (λ c. search needs))

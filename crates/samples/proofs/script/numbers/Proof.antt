@@ -13,44 +13,8 @@ Inv-loop text found₀ k₀ i₀ found k i = (i ≤ length text) × (k ≤ 4) ×
 abbrev μ-loop : tie.MeasureT-loop
 μ-loop text found₀ k₀ i₀ found k i = length text - i
 
-loop-holds : tie.Need-loop-holds Inv-loop μ-loop
-loop-holds c = search needs
-
-mul-appended : tie.Need-mul-appended Inv-loop μ-loop
-mul-appended c = search needs
-
-array-read-appended : tie.Need-array-read-appended Inv-loop μ-loop
-array-read-appended c = search needs
-
-shared-slice-read-appended : tie.Need-shared-slice-read-appended Inv-loop μ-loop
-shared-slice-read-appended c = search needs
-
-appended-requires : tie.Need-appended-requires Inv-loop μ-loop
-appended-requires c κs = search needs
-
-mul-found : tie.Need-mul-found Inv-loop μ-loop
-mul-found c = search needs
-
-array-write-found : tie.Need-array-write-found Inv-loop μ-loop
-array-write-found c = search needs
-
-shared-slice-read-place-after : tie.Need-shared-slice-read-place-after Inv-loop μ-loop
-shared-slice-read-place-after c = search needs
-
-place-after-requires : tie.Need-place-after-requires Inv-loop μ-loop
-place-after-requires c κs = search needs
-
-add-i : tie.Need-add-i Inv-loop μ-loop
-add-i c = search needs
-
-loop-less : tie.Need-loop-less Inv-loop μ-loop
-loop-less c = search needs
-
 loop-again : tie.Need-loop-again Inv-loop μ-loop
 loop-again c = simp length-set (omega arith)
-
-returns : tie.Need-returns Inv-loop μ-loop
-returns c = search needs
 
 pub numbers-spec : {M : Type 1} → statement M
 numbers-spec =
@@ -58,16 +22,16 @@ numbers-spec =
     (tie.spec
     Inv-loop
     μ-loop
-    loop-holds
-    mul-appended
-    array-read-appended
-    shared-slice-read-appended
-    appended-requires
-    mul-found
-    array-write-found
-    shared-slice-read-place-after
-    place-after-requires
-    add-i
-    loop-less
+    (λ c. search needs)
+    (λ c. search needs)
+    (λ c. search needs)
+    (λ c. search needs)
+    (λ c κs. search needs)
+    (λ c. search needs)
+    (λ c. search needs)
+    (λ c. search needs)
+    (λ c κs. search needs)
+    (λ c. search needs)
+    (λ c. search needs)
     loop-again
-    returns)
+    (λ c. search needs))

@@ -9,12 +9,6 @@ use borrow.Author.Needs.{needs}
 use Rattle.sbox.proofs.rules.double_four_bits.Statement.{statement}
 use Rattle.sbox.proofs.rules.double_four_bits.Tie as tie
 
-mul-result : tie.Need-mul-result
-mul-result c = search needs
-
-mul-result-2 : tie.Need-mul-result-2
-mul-result-2 c = search needs
-
 returns : tie.Need-returns
 unfolding double
 returns c =
@@ -25,4 +19,4 @@ returns c =
     }
 
 pub double-four-bits-spec : {M : Type 1} → statement M
-double-four-bits-spec = tie.close (tie.spec mul-result mul-result-2 returns)
+double-four-bits-spec = tie.close (tie.spec (λ c. search needs) (λ c. search needs) returns)

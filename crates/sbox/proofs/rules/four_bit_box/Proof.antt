@@ -6,18 +6,9 @@ use borrow.Author.Needs.{needs}
 use Rattle.sbox.proofs.rules.four_bit_box.Statement.{statement}
 use Rattle.sbox.proofs.rules.four_bit_box.Tie as tie
 
-mul-result : tie.Need-mul-result
-mul-result c = search needs
-
-index-1-result : tie.Need-index-1-result
-index-1-result c = search needs
-
-index-2-result : tie.Need-index-2-result
-index-2-result c = search needs
-
 returns : tie.Need-returns
 unfolding fourBitBoxes ss0 ss1 ss2 ss3
 returns c = record { right = refl; small = four-bits (c .before .args .i) (c .before .args .x) }
 
 pub four-bit-box-spec : {M : Type 1} → statement M
-four-bit-box-spec = tie.close (tie.spec mul-result index-1-result index-2-result returns)
+four-bit-box-spec = tie.close (tie.spec (λ c. search needs) (λ c. search needs) (λ c. search needs) returns)

@@ -5,21 +5,6 @@ use borrow.Author.Needs.{needs}
 use Rattle.sbox.proofs.rules.inverse.Statement.{statement}
 use Rattle.sbox.proofs.rules.inverse.Tie as tie
 
-linear-requires : tie.Need-linear-requires
-linear-requires c κs = search needs
-
-product-requires : tie.Need-product-requires
-product-requires c κs = search needs
-
-cast-product : tie.Need-cast-product
-cast-product c = search needs
-
-array-read-product : tie.Need-array-read-product
-array-read-product c = search needs
-
-product-requires-2 : tie.Need-product-requires-2
-product-requires-2 c κs = search needs
-
 returns : tie.Need-returns
 unfolding inverseBySubfield power14
 returns c =
@@ -31,9 +16,9 @@ pub inverse-spec : {M : Type 1} → statement M
 inverse-spec =
     tie.close
     (tie.spec
-    linear-requires
-    product-requires
-    cast-product
-    array-read-product
-    product-requires-2
+    (λ c κs. search needs)
+    (λ c κs. search needs)
+    (λ c. search needs)
+    (λ c. search needs)
+    (λ c κs. search needs)
     returns)

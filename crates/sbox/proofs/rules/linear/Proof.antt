@@ -18,12 +18,6 @@ abbrev μ-loop : tie.MeasureT-loop
 loop-holds : tie.Need-loop-holds Inv-loop μ-loop
 loop-holds c = (search needs, refl)
 
-array-read-last-bit-times : tie.Need-array-read-last-bit-times Inv-loop μ-loop
-array-read-last-bit-times c = search needs
-
-last-bit-times-requires : tie.Need-last-bit-times-requires Inv-loop μ-loop
-last-bit-times-requires c κs = search needs
-
 add-i : tie.Need-add-i Inv-loop μ-loop
 add-i c = omega arith
 
@@ -53,8 +47,8 @@ linear-spec =
     Inv-loop
     μ-loop
     loop-holds
-    array-read-last-bit-times
-    last-bit-times-requires
+    (λ c. search needs)
+    (λ c κs. search needs)
     add-i
     loop-less
     loop-again

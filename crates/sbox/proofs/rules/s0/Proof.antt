@@ -6,35 +6,17 @@ use borrow.Author.Needs.{needs}
 use Rattle.sbox.proofs.rules.s0.Statement.{statement}
 use Rattle.sbox.proofs.rules.s0.Tie as tie
 
-four-bit-box-requires : tie.Need-four-bit-box-requires
-four-bit-box-requires c κs = search needs
-
-four-bit-box-requires-2 : tie.Need-four-bit-box-requires-2
-four-bit-box-requires-2 c κs = search needs
-
-double-four-bits-requires : tie.Need-double-four-bits-requires
-double-four-bits-requires c κs = search needs
-
-double-four-bits-requires-2 : tie.Need-double-four-bits-requires-2
-double-four-bits-requires-2 c κs = search needs
-
 four-bit-box-requires-3 : tie.Need-four-bit-box-requires-3
 four-bit-box-requires-3 c κs =
     let t = c .before .before .before .four-bit-box in
     let d = c .before .double-four-bits in
     (search needs, xor-lt 4 (t .result) (d .result) (t .ensures .small) (d .ensures .small))
 
-mul-result : tie.Need-mul-result
-mul-result c = search needs
-
 four-bit-box-requires-4 : tie.Need-four-bit-box-requires-4
 four-bit-box-requires-4 c κs =
     let t = c .before .before .before .four-bit-box2 in
     let d = c .before .double-four-bits2 in
     (search needs, xor-lt 4 (d .result) (t .result) (d .ensures .small) (t .ensures .small))
-
-add-result : tie.Need-add-result
-add-result c = search needs
 
 returns : tie.Need-returns
 unfolding fourBitBoxes s0
@@ -47,12 +29,12 @@ pub s0-spec : {M : Type 1} → statement M
 s0-spec =
     tie.close
     (tie.spec
-    four-bit-box-requires
-    four-bit-box-requires-2
-    double-four-bits-requires
-    double-four-bits-requires-2
+    (λ c κs. search needs)
+    (λ c κs. search needs)
+    (λ c κs. search needs)
+    (λ c κs. search needs)
     four-bit-box-requires-3
-    mul-result
+    (λ c. search needs)
     four-bit-box-requires-4
-    add-result
+    (λ c. search needs)
     returns)

@@ -5,15 +5,6 @@ use borrow.Author.Needs.{needs}
 use Rattle.sbox.proofs.rules.s1.Statement.{statement}
 use Rattle.sbox.proofs.rules.s1.Tie as tie
 
-linear-requires : tie.Need-linear-requires
-linear-requires c κs = search needs
-
-inverse-requires : tie.Need-inverse-requires
-inverse-requires c κs = search needs
-
-linear-requires-2 : tie.Need-linear-requires-2
-linear-requires-2 c κs = search needs
-
 returns : tie.Need-returns
 unfolding fByColumns gByColumns s1
 returns c =
@@ -22,4 +13,4 @@ returns c =
     cc (f-columns x (search needs), g-columns y (search needs))
 
 pub s1-spec : {M : Type 1} → statement M
-s1-spec = tie.close (tie.spec linear-requires inverse-requires linear-requires-2 returns)
+s1-spec = tie.close (tie.spec (λ c κs. search needs) (λ c κs. search needs) (λ c κs. search needs) returns)
