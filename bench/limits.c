@@ -77,6 +77,13 @@ static double growth(const struct limit *l)
     return worst;
 }
 
+/* What going twice over the largest book takes in plain C, in units of sealing it there; way 2, worst of the key lengths. */
+static double two_passes_in_c(void)
+{
+    const struct limit twice = {"", OPENING(2, PLAIN), SEALING(2, PLAIN), AT_MOST, 0};
+    return 2 * worst_of_keys(&twice);
+}
+
 int print_limits(void)
 {
     int broken = 0;
@@ -88,5 +95,7 @@ int print_limits(void)
         printf("| %s | %.3f | at %s %.2f | %s |\n", l->what, found, most ? "most" : "least", l->bound,
                holds ? "pass" : "broken");
     }
+    printf("\nThe library goes twice over a book that it opens. For comparison: by way 2 two of plain C's passes of opening take %.3f\n"
+           "times as long as plain C's sealing.\n", two_passes_in_c());
     return broken;
 }
