@@ -13,4 +13,5 @@ returns c =
 
 pub decrypt-block-spec : {M : Type 1} → statement M
 decrypt-block-spec =
-    tie.close (tie.spec (λ c κs. search needs) (λ c κs. search needs) (λ c κs. search needs) (λ c. search needs) returns)
+    tie.close
+    (tie.spec (λ c κs. search needs) (λ c κs. search needs) (λ c κs. search needs) (λ c. search needs) returns)

@@ -13,4 +13,5 @@ returns c =
 
 pub encrypt-block-spec : {M : Type 1} → statement M
 encrypt-block-spec =
-    tie.close (tie.spec (λ c κs. search needs) (λ c κs. search needs) (λ c κs. search needs) (λ c. search needs) returns)
+    tie.close
+    (tie.spec (λ c κs. search needs) (λ c κs. search needs) (λ c κs. search needs) (λ c. search needs) returns)

@@ -12,4 +12,5 @@ returns c = rw (spell 4 (c .args .t3) (c .good .1 .1 .0 .1 .0 .1))
 
 pub whiten-spec : {M : Type 1} → statement M
 whiten-spec =
-    tie.close (tie.spec (λ c. search needs) (λ c. search needs) (λ c. search needs) (λ c. search needs) returns)
+    tie.close
+    (tie.spec (λ c. search needs) (λ c. search needs) (λ c. search needs) (λ c. search needs) returns)

@@ -87,27 +87,7 @@ returns c = filled-end _ (c .before .loop .inv) (search needs)
 pub recode-bodies-spec : {M : Type 1} → statement M
 recode-bodies-spec =
     tie.close
-    (tie.spec
-    Inv-loop
-    μ-loop
-    (λ c κs. search needs)
-    (λ c. search needs)
-    (λ c. search needs)
-    loop-holds
-    (λ c. search needs)
-    body-end-requires
-    (λ c. search needs)
-    (λ c. search needs)
-    (λ c. search needs)
-    (λ c. search needs)
-    (λ c. search needs)
-    part-recode-sheet-end-2
-    (λ c. search needs)
-    (λ c. search needs)
-    part-recode-sheet-end-3
-    recode-sheet-requires
-    (λ c. search needs)
-    (λ c. search needs)
-    loop-again
-    same-length
-    returns)
+    (tie.spec Inv-loop μ-loop (λ c κs. search needs) (λ c. search needs) (λ c. search needs) loop-holds (λ c. search needs) body-end-requires
+    (λ c. search needs) (λ c. search needs) (λ c. search needs) (λ c. search needs) (λ c. search needs) part-recode-sheet-end-2
+    (λ c. search needs) (λ c. search needs) part-recode-sheet-end-3 recode-sheet-requires (λ c. search needs) (λ c. search needs) loop-again
+    same-length returns)

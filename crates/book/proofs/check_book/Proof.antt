@@ -48,12 +48,5 @@ returns-3 c =
 pub check-book-spec : {M : Type 1} → statement M
 check-book-spec =
     tie.close
-    (tie.spec
-    (λ c κs. search needs)
-    (λ c κs. search needs)
-    (λ c. search needs)
-    (λ c. search needs)
-    returns
-    records-hold-requires
-    returns-2
+    (tie.spec (λ c κs. search needs) (λ c κs. search needs) (λ c. search needs) (λ c. search needs) returns records-hold-requires returns-2
     returns-3)

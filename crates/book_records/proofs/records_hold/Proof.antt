@@ -78,24 +78,6 @@ returns-2 c = tested-end _ (c .before .loop .inv) (search needs)
 pub records-hold-spec : {M : Type 1} → statement M
 records-hold-spec =
     tie.close
-    (tie.spec
-    Inv-loop
-    μ-loop
-    (λ c κs. search needs)
-    (λ c. search needs)
-    (λ c. search needs)
-    loop-holds
-    (λ c. search needs)
-    body-end-requires
-    (λ c. search needs)
-    (λ c. search needs)
-    (λ c. search needs)
-    (λ c. search needs)
-    (λ c. search needs)
-    part-sheet-holds-end-2
-    sheet-holds-requires
-    returns
-    (λ c. search needs)
-    (λ c. search needs)
-    loop-again
-    returns-2)
+    (tie.spec Inv-loop μ-loop (λ c κs. search needs) (λ c. search needs) (λ c. search needs) loop-holds (λ c. search needs) body-end-requires
+    (λ c. search needs) (λ c. search needs) (λ c. search needs) (λ c. search needs) (λ c. search needs) part-sheet-holds-end-2
+    sheet-holds-requires returns (λ c. search needs) (λ c. search needs) loop-again returns-2)

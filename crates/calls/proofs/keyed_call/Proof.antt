@@ -30,13 +30,5 @@ returns-2 c =
 pub keyed-call-spec : {M : Type 1} → statement M
 keyed-call-spec =
     tie.close
-    (tie.spec
-    (λ c κs. search needs)
-    (λ c. search needs)
-    (λ c. search needs)
-    returns
-    array-borrow-prefix-w
-    slice-aggregate-perform-by
-    perform-by-requires
-    (λ c. search needs)
-    returns-2)
+    (tie.spec (λ c κs. search needs) (λ c. search needs) (λ c. search needs) returns array-borrow-prefix-w slice-aggregate-perform-by
+    perform-by-requires (λ c. search needs) returns-2)

@@ -32,4 +32,5 @@ returns-3 c =
 
 pub check-key-spec : {M : Type 1} → statement M
 check-key-spec =
-    tie.close (tie.spec (λ c κs. search needs) returns (λ c κs. search needs) returns-2 (λ c. search needs) returns-3)
+    tie.close
+    (tie.spec (λ c κs. search needs) returns (λ c κs. search needs) returns-2 (λ c. search needs) returns-3)

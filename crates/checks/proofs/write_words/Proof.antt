@@ -18,4 +18,6 @@ unfolding outputCheck judged
 returns-2 c = given-accepted _ _ (judged-true (eq-eqb _ _ (c .before .before .before .before .if1 .left)) 4 [] _) (c .before .before .store-all .ensures)
 
 pub write-words-spec : {M : Type 1} → statement M
-write-words-spec = tie.close (tie.spec (λ c. search needs) returns (λ c κs. search needs) (λ c. search needs) returns-2)
+write-words-spec =
+    tie.close
+    (tie.spec (λ c. search needs) returns (λ c κs. search needs) (λ c. search needs) returns-2)

@@ -7,4 +7,6 @@ by-tables-requires : tie.Need-by-tables-requires
 by-tables-requires c κs = (search needs, c .before .pre (c .if1 .taken))
 
 pub by-bytes0-spec : {M : Type 1} → statement M
-by-bytes0-spec = tie.close (tie.spec by-tables-requires (λ c κs. search needs) (λ c. search needs) (λ c. search needs))
+by-bytes0-spec =
+    tie.close
+    (tie.spec by-tables-requires (λ c κs. search needs) (λ c. search needs) (λ c. search needs))

@@ -68,23 +68,6 @@ returns-3 c =
 pub check-contents-spec : {M : Type 1} → statement M
 check-contents-spec =
     tie.close
-    (tie.spec
-    Inv-loop
-    μ-loop
-    loop-holds
-    (λ c. search needs)
-    (λ c. search needs)
-    (λ c. search needs)
-    (λ c. search needs)
-    read-entry-requires
-    (λ c. search needs)
-    (λ c. search needs)
-    returns
-    add-records
-    (λ c. search needs)
-    (λ c. search needs)
-    loop-again
-    (λ c. search needs)
-    (λ c. search needs)
-    returns-2
-    returns-3)
+    (tie.spec Inv-loop μ-loop loop-holds (λ c. search needs) (λ c. search needs) (λ c. search needs) (λ c. search needs) read-entry-requires
+    (λ c. search needs) (λ c. search needs) returns add-records (λ c. search needs) (λ c. search needs) loop-again (λ c. search needs)
+    (λ c. search needs) returns-2 returns-3)

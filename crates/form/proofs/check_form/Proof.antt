@@ -24,10 +24,4 @@ returns-2 c =
 pub check-form-spec : {M : Type 1} → statement M
 check-form-spec =
     tie.close
-    (tie.spec
-    (λ c κs. search needs)
-    (λ c. search needs)
-    (λ c. search needs)
-    returns
-    check-contents-requires
-    returns-2)
+    (tie.spec (λ c κs. search needs) (λ c. search needs) (λ c. search needs) returns check-contents-requires returns-2)

@@ -60,14 +60,5 @@ returns-5 c =
 pub check-head-spec : {M : Type 1} → statement M
 check-head-spec =
     tie.close
-    (tie.spec
-    (λ c κs. search needs)
-    returns
-    headed-requires
-    returns-2
-    half-requires
-    returns-3
-    (λ c. search needs)
-    (λ c. search needs)
-    returns-4
+    (tie.spec (λ c κs. search needs) returns headed-requires returns-2 half-requires returns-3 (λ c. search needs) (λ c. search needs) returns-4
     returns-5)

@@ -10,4 +10,5 @@ returns c = rw (spell 8 (c .args .t1) (c .good .0 .1 .0 .1))
 
 pub first-half-spec : {M : Type 1} → statement M
 first-half-spec =
-    tie.close (tie.spec (λ c. search needs) (λ c. search needs) (λ c. search needs) (λ c. search needs) returns)
+    tie.close
+    (tie.spec (λ c. search needs) (λ c. search needs) (λ c. search needs) (λ c. search needs) returns)

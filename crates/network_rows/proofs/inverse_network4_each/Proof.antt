@@ -22,12 +22,5 @@ returns-2 c = rw (c .before .before .before .inverse-network4 .ensures, c .befor
 pub inverse-network4-each-spec : {M : Type 1} → statement M
 inverse-network4-each-spec =
     tie.close
-    (tie.spec
-    (λ c κs. search needs)
-    undo-by-two-requires
-    returns
-    (λ c κs. search needs)
-    (λ c κs. search needs)
-    (λ c κs. search needs)
-    (λ c κs. search needs)
-    returns-2)
+    (tie.spec (λ c κs. search needs) undo-by-two-requires returns (λ c κs. search needs) (λ c κs. search needs) (λ c κs. search needs)
+    (λ c κs. search needs) returns-2)

@@ -22,12 +22,5 @@ returns-2 c = rw (c .before .before .before .network4 .ensures, c .before .befor
 pub network4-each-spec : {M : Type 1} → statement M
 network4-each-spec =
     tie.close
-    (tie.spec
-    rounds-by-two-requires
-    (λ c κs. search needs)
-    returns
-    (λ c κs. search needs)
-    (λ c κs. search needs)
-    (λ c κs. search needs)
-    (λ c κs. search needs)
-    returns-2)
+    (tie.spec rounds-by-two-requires (λ c κs. search needs) returns (λ c κs. search needs) (λ c κs. search needs) (λ c κs. search needs)
+    (λ c κs. search needs) returns-2)

@@ -8,4 +8,6 @@ returns : tie.Need-returns
 returns c = answers (c .before .before .before .constants .ensures) (c .number .ensures)
 
 pub planbook-constants-spec : {M : Type 1} → statement M
-planbook-constants-spec = tie.close (tie.spec (λ c κs. search needs) (λ c κs. search needs) (λ c. search needs) returns)
+planbook-constants-spec =
+    tie.close
+    (tie.spec (λ c κs. search needs) (λ c κs. search needs) (λ c. search needs) returns)

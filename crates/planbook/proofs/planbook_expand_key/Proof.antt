@@ -10,4 +10,6 @@ returns : tie.Need-returns
 returns c = answers (given-same (expand-key-keyed _ _ _) (c .before .before .before .keyed-call .ensures)) (c .number .ensures)
 
 pub planbook-expand-key-spec : {M : Type 1} → statement M
-planbook-expand-key-spec = tie.close (tie.spec (λ c. search needs) (λ c. search needs) (λ c κs. search needs) (λ c κs. search needs) (λ c. search needs) returns)
+planbook-expand-key-spec =
+    tie.close
+    (tie.spec (λ c. search needs) (λ c. search needs) (λ c κs. search needs) (λ c κs. search needs) (λ c. search needs) returns)

@@ -16,4 +16,5 @@ returns-2 c = rw (c .before .xors4 .ensures, c .before .before .four-at .ensures
 
 pub step-keys-spec : {M : Type 1} → statement M
 step-keys-spec =
-    tie.close (tie.spec (λ c κs. search needs) (λ c κs. search needs) (λ c κs. search needs) returns returns-2)
+    tie.close
+    (tie.spec (λ c κs. search needs) (λ c κs. search needs) (λ c κs. search needs) returns returns-2)

@@ -15,4 +15,6 @@ unfolding box
 returns-2 c = let e : c .before .before .args .i ≡ 1 = omega arith in rw e (c .s1 .ensures)
 
 pub by-rule-spec : {M : Type 1} → statement M
-by-rule-spec = tie.close (tie.spec (λ c κs. search needs) (λ c κs. search needs) returns returns-2)
+by-rule-spec =
+    tie.close
+    (tie.spec (λ c κs. search needs) (λ c κs. search needs) returns returns-2)

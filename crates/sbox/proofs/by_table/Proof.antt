@@ -13,4 +13,6 @@ returns c =
     rw (c .before .pre .1) (byte-at (a .i) (a .x) (search needs) (search needs))
 
 pub by-table-spec : {M : Type 1} → statement M
-by-table-spec = tie.close (tie.spec (λ c. search needs) index-1-result (λ c. search needs) returns)
+by-table-spec =
+    tie.close
+    (tie.spec (λ c. search needs) index-1-result (λ c. search needs) returns)

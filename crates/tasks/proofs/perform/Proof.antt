@@ -86,30 +86,7 @@ returns-5 c =
 pub perform-spec : {M : Type 1} → statement M
 perform-spec =
     tie.close
-    (tie.spec
-    (λ c κs. search needs)
-    (λ c. search needs)
-    write-words-requires
-    (λ c. search needs)
-    code-block-requires
-    (λ c. search needs)
-    code-block-requires-2
-    (λ c. search needs)
-    encrypt-book-requires
-    (λ c. search needs)
-    decrypt-book-requires
-    (λ c. search needs)
-    (λ c. search needs)
-    returns
-    (λ c. search needs)
-    (λ c. search needs)
-    returns-2
-    (λ c. search needs)
-    (λ c. search needs)
-    returns-3
-    (λ c. search needs)
-    (λ c. search needs)
-    returns-4
-    (λ c. search needs)
-    (λ c. search needs)
-    returns-5)
+    (tie.spec (λ c κs. search needs) (λ c. search needs) write-words-requires (λ c. search needs) code-block-requires (λ c. search needs)
+    code-block-requires-2 (λ c. search needs) encrypt-book-requires (λ c. search needs) decrypt-book-requires (λ c. search needs)
+    (λ c. search needs) returns (λ c. search needs) (λ c. search needs) returns-2 (λ c. search needs) (λ c. search needs) returns-3
+    (λ c. search needs) (λ c. search needs) returns-4 (λ c. search needs) (λ c. search needs) returns-5)

@@ -22,4 +22,6 @@ returns : tie.Need-returns
 returns c = let e : c .half .result ≡ _ = counted c in search needs
 
 pub body-end-spec : {M : Type 1} → statement M
-body-end-spec = tie.close (tie.spec (λ c. search needs) (λ c κs. search needs) mul-result add-result returns)
+body-end-spec =
+    tie.close
+    (tie.spec (λ c. search needs) (λ c κs. search needs) mul-result add-result returns)

@@ -10,4 +10,6 @@ returns-2 : tie.Need-returns-2
 returns-2 c = rw (c .before .if1 .left) (c .encrypt .ensures)
 
 pub recode-spec : {M : Type 1} → statement M
-recode-spec = tie.close (tie.spec (λ c κs. search needs) (λ c κs. search needs) returns returns-2)
+recode-spec =
+    tie.close
+    (tie.spec (λ c κs. search needs) (λ c κs. search needs) returns returns-2)

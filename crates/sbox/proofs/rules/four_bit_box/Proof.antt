@@ -11,4 +11,6 @@ unfolding fourBitBoxes ss0 ss1 ss2 ss3
 returns c = record { right = refl; small = four-bits (c .before .args .i) (c .before .args .x) }
 
 pub four-bit-box-spec : {M : Type 1} → statement M
-four-bit-box-spec = tie.close (tie.spec (λ c. search needs) (λ c. search needs) (λ c. search needs) returns)
+four-bit-box-spec =
+    tie.close
+    (tie.spec (λ c. search needs) (λ c. search needs) (λ c. search needs) returns)

@@ -28,13 +28,5 @@ returns c =
 pub s0-spec : {M : Type 1} → statement M
 s0-spec =
     tie.close
-    (tie.spec
-    (λ c κs. search needs)
-    (λ c κs. search needs)
-    (λ c κs. search needs)
-    (λ c κs. search needs)
-    four-bit-box-requires-3
-    (λ c. search needs)
-    four-bit-box-requires-4
-    (λ c. search needs)
-    returns)
+    (tie.spec (λ c κs. search needs) (λ c κs. search needs) (λ c κs. search needs) (λ c κs. search needs) four-bit-box-requires-3
+    (λ c. search needs) four-bit-box-requires-4 (λ c. search needs) returns)

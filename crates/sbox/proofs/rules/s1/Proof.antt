@@ -13,4 +13,6 @@ returns c =
     cc (f-columns x (search needs), g-columns y (search needs))
 
 pub s1-spec : {M : Type 1} → statement M
-s1-spec = tie.close (tie.spec (λ c κs. search needs) (λ c κs. search needs) (λ c κs. search needs) returns)
+s1-spec =
+    tie.close
+    (tie.spec (λ c κs. search needs) (λ c κs. search needs) (λ c κs. search needs) returns)
