@@ -1,7 +1,7 @@
 -- Laws of chains: what a step on words is on bytes, and stretches of an output that are filled one after the other.
 use Prim.Native.Nat.{ℕ, zero, suc, _+_, _-_, _*_, _^_, _≤_, _<_}
-use mathlib.Core.Path.{_≡_, refl, sym, ap, ap₂, _∙_}
-use mathlib.Core.Bool.{Bool, true, false, _&&_}
+use mathlib.Core.Path.{_≡_, sym, ap, ap₂, _∙_}
+use mathlib.Core.Bool.{Bool, true, false, _&&_, and-assoc, and-true}
 use mathlib.Core.List.{List, _∷_, _++_, append-assoc}
 use native.Mathlib.Omega.{arith}
 use borrow.Rule.Slice.PartMut.{putMid, same-len-mid, mid-len}
@@ -151,18 +151,6 @@ ahead-fits zero {end} {size} {from} e h f g = let z : from ≡ 0 = g (omega arit
 ahead-fits (suc n) {end} {size} {from} e h f g = let z : from ≡ end = f (omega arith) in omega arith
 
 -- ---- a rule of the records, looked at as the chain is undone
-
-and-assoc : (x y z : Bool) → ((x && y) && z) ≡ (x && (y && z))
-and-assoc true y z = refl
-and-assoc false y z = refl
-
-pub and-true : (x : Bool) → (x && true) ≡ x
-and-true true = refl
-and-true false = refl
-
-pub and-false : (x : Bool) → (x && false) ≡ false
-and-false true = refl
-and-false false = refl
 
 -- So far all records have held, or not (b); `left` are to come.
 pub record Decrypted (b : Bool) (w entry body : List ℕ) (at left : ℕ) (p : List ℕ) : Type 0 where

@@ -4,13 +4,14 @@ use mathlib.Core.List.{List, [], _∷_, map}
 use native.Mathlib.Nat.{mod-lt}
 use lib.Arith.{digits-lt}
 use lib.Bits.{xor-lt}
+use mir.Facts.{and-yes}
 use lib.Dec.{T, ltb, ltb→lt, lit<}
 use mathlib.Core.Bool.{Bool, true, _&&_}
 use lib.ListN.{getD}
 use Rattle.clefia_spec.specs.Words.{_⊕_, fromDigits, Below, none, more}
 use Rattle.clefia_laws.specs.DigitLaws.{below-getD, fromDigits-lt}
 use Rattle.clefia_spec.specs.Field.{double4, product, inverse}
-use Rattle.clefia_laws.specs.FieldLaws.{and-left, and-right, product-lt}
+use Rattle.clefia_laws.specs.FieldLaws.{product-lt}
 use Rattle.clefia_spec.specs.Sbox.{ss0, ss1, ss2, ss3, s0, bitOf, sumOfBits, affine, fRows, gRows, s1}
 use Rattle.clefia_spec.specs.FFunction.{entry, rowTimes, matrixTimes, substitute, f0, f1}
 
@@ -22,7 +23,7 @@ allLess b (x ∷ xs) = ltb x b && allLess b xs
 below-tested : (b : ℕ) (xs : List ℕ) → T (allLess b xs) → Below b xs
 unfolding allLess
 below-tested b [] t = none
-below-tested b (x ∷ xs) t = more (ltb→lt x b (and-left (ltb x b) (allLess b xs) t)) (below-tested b xs (and-right (ltb x b) (allLess b xs) t))
+below-tested b (x ∷ xs) t = let h = and-yes (ltb x b) (allLess b xs) t in more (ltb→lt x b (h .0)) (below-tested b xs (h .1))
 
 box : (ss : List ℕ) → T (allLess 16 ss) → (i : ℕ) → getD ss i 0 < 16
 box ss t = below-getD (lit< tt) (below-tested 16 ss t)

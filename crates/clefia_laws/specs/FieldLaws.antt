@@ -1,11 +1,12 @@
 -- Laws of GF(2^8): products stay below 256. A law about each byte is one test that the checker computes for all 256.
 use Prim.Native.Nat.{ℕ, zero, suc, _*_, _/_, _%_, _<_, _≤_}
 use mathlib.Core.Path.{_≡_, refl, sym, subst}
-use mathlib.Core.Bool.{Bool, true, false, _&&_}
+use mathlib.Core.Bool.{Bool, true, _&&_}
 use mathlib.Core.Logic.{⊎-elim}
 use native.Mathlib.Nat.{eq-or-lt-of-le, le-of-suc-le-suc, not-suc-le-zero, mod-lt, zero-lt-suc, mul-le-mul-right, lt-of-le-of-lt, one-mul}
 use native.Mathlib.Omega.{arith}
 use lib.Bits.{xor-lt}
+use mir.Facts.{and-yes}
 use lib.Dec.{T, eqb, ltb, eqb→eq, ltb→lt, lit<}
 use Rattle.clefia_spec.specs.Words.{_⊕_}
 use Rattle.clefia_spec.specs.Field.{double, double8, addProduct, product, squares, inverse}
@@ -16,19 +17,11 @@ abbrev pub allBelow : (ℕ → Bool) → ℕ → Bool
 allBelow p zero = true
 allBelow p (suc n) = p n && allBelow p n
 
-pub and-left : (a b : Bool) → T (a && b) → T a
-and-left true b t = tt
-and-left false b t = t
-
-pub and-right : (a b : Bool) → T (a && b) → T b
-and-right true b t = t
-and-right false b t = absurd t
-
 pub tested : (p : ℕ → Bool) (n : ℕ) → T (allBelow p n) → (x : ℕ) → x < n → T (p x)
 tested p zero t x h = absurd (not-suc-le-zero h)
 tested p (suc n) t x h =
-    ⊎-elim (λ (e : x ≡ n). subst (λ (m : ℕ). T (p m)) (sym e) (and-left (p n) (allBelow p n) t))
-    (λ (l : x < n). tested p n (and-right (p n) (allBelow p n) t) x l)
+    ⊎-elim (λ (e : x ≡ n). subst (λ (m : ℕ). T (p m)) (sym e) (and-yes (p n) (allBelow p n) t .0))
+    (λ (l : x < n). tested p n (and-yes (p n) (allBelow p n) t .1) x l)
     (eq-or-lt-of-le (le-of-suc-le-suc h))
 
 -- two functions that agree in the test agree at each number below n

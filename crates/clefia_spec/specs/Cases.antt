@@ -27,9 +27,10 @@ unfolding same
 allSame [] = true
 allSame ((xs gives ys) ∷ cs) = same xs ys && allSame cs
 
-both : (a b : Bool) → a && b ≡ true → (a ≡ true) × (b ≡ true)
-both true b e = (refl, e)
-both false b e = absurd (false≢true e)
+-- Of two tests that passed together, both passed.
+pub both-true : (a b : Bool) → a && b ≡ true → (a ≡ true) × (b ≡ true)
+both-true true b e = (refl, e)
+both-true false b e = absurd (false≢true e)
 
 same-equal : (xs ys : List ℕ) → same xs ys ≡ true → xs ≡ ys
 unfolding same
@@ -37,12 +38,12 @@ same-equal [] [] e = refl
 same-equal [] (y ∷ ys) e = absurd (false≢true e)
 same-equal (x ∷ xs) [] e = absurd (false≢true e)
 same-equal (x ∷ xs) (y ∷ ys) e =
-    let h : (eqb x y ≡ true) × (same xs ys ≡ true) = both _ _ e in
+    let h : (eqb x y ≡ true) × (same xs ys ≡ true) = both-true _ _ e in
     ap₂ (λ (a : ℕ) (l : List ℕ). a ∷ l) (eqb-true x y (h .0)) (same-equal xs ys (h .1))
 
 pub computed : (cs : List Case) → allSame cs ≡ true → AllHold cs
 unfolding allSame
 computed [] e = done
 computed ((xs gives ys) ∷ cs) e =
-    let h : (same xs ys ≡ true) × (allSame cs ≡ true) = both _ _ e in
+    let h : (same xs ys ≡ true) × (allSame cs ≡ true) = both-true _ _ e in
     _and_ (same-equal xs ys (h .0)) (computed cs (h .1))

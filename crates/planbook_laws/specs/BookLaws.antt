@@ -1,6 +1,6 @@
 -- A book recoded: its head and contents stay, its checks stay, and a coding that takes the bodies back takes the book back.
 use Prim.Native.Nat.{ℕ, zero, suc, _+_, _*_, _^_, _≤_, _<_}
-use mathlib.Core.Bool.{Bool, true, false, _&&_, false≢true}
+use mathlib.Core.Bool.{false≢true}
 use mathlib.Core.List.{List, [], _∷_, _++_}
 use mathlib.Core.Path.{_≡_, refl, sym, ap, _∙_, subst}
 use native.Mathlib.Omega.{arith}
@@ -8,6 +8,7 @@ use borrow.Author.Tests.{leb-true, eqb-true, eq-eqb}
 use lib.Dec.{leb}
 use lib.ListN.{length, take, drop, length-drop, take-append-drop}
 use lib.Seq.{take-at, drop-at, take-append-le, drop-append-le}
+use Rattle.clefia_spec.specs.Cases.{both-true}
 use Rattle.clefia_spec.specs.Words.{fromDigits, Below, more}
 use Rattle.clefia_laws.specs.RowLaws.{Bytes, sized-append, sized-take, sized-drop}
 use Rattle.planbook_spec.specs.Outcome.{check}
@@ -72,14 +73,6 @@ pub data Shaped (mark : ℕ) : List ℕ → Type 0 where
       → Bytes (24 * fromDigits 256 (c ∷ d ∷ []) + 16 * recordCount (pieces 24 (fromDigits 256 (c ∷ d ∷ [])) bs)) bs
       → Shaped mark (mark ∷ b ∷ c ∷ d ∷ bs)
 
-pub and-left : (x y : Bool) → x && y ≡ true → x ≡ true
-and-left true y e = refl
-and-left false y e = e
-
-pub and-right : (x y : Bool) → x && y ≡ true → y ≡ true
-and-right true y e = e
-and-right false y e = absurd (false≢true e)
-
 -- What checks 5 to 10 say of a book's sizes, once they are passed.
 pub record Formed (book : List ℕ) : Type 0 where
   pub few : sheetCount book ≤ 64
@@ -92,7 +85,7 @@ formed mark book p =
     let q : AllPass (drop 2 (formChecks mark book)) = pass-tail (pass-tail p) in
     record {
       few = leb-true _ 64 (pass-head q);
-      short = leb-true (length book) 65532 (and-right (leb 4 (length book)) (leb (length book) 65532) (pass-head p));
+      short = leb-true (length book) 65532 (both-true (leb 4 (length book)) (leb (length book) 65532) (pass-head p) .1);
       size = eqb-true (length book) _ (pass-head (pass-tail (pass-tail (pass-tail q))));
     }
 
@@ -111,7 +104,7 @@ shape mark (a ∷ []) r p = absurd (false≢true (pass-head p))
 shape mark (a ∷ b ∷ []) r p = absurd (false≢true (pass-head p))
 shape mark (a ∷ b ∷ c ∷ []) r p = absurd (false≢true (pass-head p))
 shape mark (a ∷ b ∷ c ∷ d ∷ bs) r p =
-    let first : a ≡ mark = eqb-true a mark (and-left _ _ (pass-head (pass-tail p))) in
+    let first : a ≡ mark = eqb-true a mark (both-true _ _ (pass-head (pass-tail p)) .0) in
     let n : ℕ = fromDigits 256 (c ∷ d ∷ []) in
     let size : suc (suc (suc (suc (length bs)))) ≡ 4 + 24 * n + 16 * recordCount (pieces 24 n bs) = formed mark (a ∷ b ∷ c ∷ d ∷ bs) p .size in
     subst (λ (x : ℕ). Shaped mark (x ∷ b ∷ c ∷ d ∷ bs)) (sym first)

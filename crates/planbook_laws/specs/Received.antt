@@ -9,6 +9,7 @@ use native.Mathlib.Omega.{arith}
 use borrow.Author.Tests.{leb-true}
 use lib.Dec.{eqb, leb, lit<}
 use lib.ListN.{length}
+use Rattle.clefia_spec.specs.Cases.{both-true}
 use Rattle.clefia_spec.specs.Words.{choose, byKeyLength, Below}
 use Rattle.clefia_spec.specs.Block.{decrypt}
 use Rattle.planbook_spec.specs.Outcome.{Outcome, refused, accepted, answer, after, Answers, Check, check, judged}
@@ -16,7 +17,7 @@ use Rattle.planbook_spec.specs.OutcomeLaws.{AllPass, none, more, answers-equal,
 use Rattle.planbook_spec.specs.Checks.{keyCheck, wayCheck, blockCheck, outputCheck, keyAndWay, constantCount, expandedCount, constantsCall, expandKeyCall, blockChecks, encryptBlockCall, decryptBlockCall}
 use Rattle.planbook_laws.specs.CheckLaws.{Way}
 use Rattle.planbook_spec.specs.Book.{formChecks, recordsCheck, asItIs, decryptBody, bookChecks, encryptBookBy, decryptBookBy, encryptBookCall, decryptBookCall}
-use Rattle.planbook_laws.specs.BookLaws.{and-left, and-right, formed-count}
+use Rattle.planbook_laws.specs.BookLaws.{formed-count}
 use Rattle.planbook_laws.specs.BookCipher.{book-formed}
 use Rattle.planbook_laws.specs.Demands.{demand2-decrypts, demand2-encrypts, demand2-block-decrypts, demand2-block-encrypts, EncryptedAlike, demand3}
 
@@ -67,10 +68,10 @@ numbered (check c b ∷ cs) = leb 1 c && leb c 11 && numbered cs
 readable : (cs : List Check) (n : ℕ) (bs : List ℕ) → numbered cs ≡ true → (AllPass cs → n < 2 ^ 32) → Readable (judged cs (accepted n bs))
 unfolding judged numbered
 readable [] n bs e f = acceptance (f none)
-readable (check c true ∷ cs) n bs e f = readable cs n bs (and-right (leb 1 c && leb c 11) _ e) (λ p. f (more p))
+readable (check c true ∷ cs) n bs e f = readable cs n bs (both-true (leb 1 c && leb c 11) _ e .1) (λ p. f (more p))
 readable (check c false ∷ cs) n bs e f =
-    let h : leb 1 c && leb c 11 ≡ true = and-left (leb 1 c && leb c 11) (numbered cs) e in
-    refusal (leb-true 1 c (and-left (leb 1 c) (leb c 11) h)) (leb-true c 11 (and-right (leb 1 c) (leb c 11) h))
+    let h : (leb 1 c ≡ true) × (leb c 11 ≡ true) = both-true (leb 1 c) (leb c 11) (both-true (leb 1 c && leb c 11) (numbered cs) e .0) in
+    refusal (leb-true 1 c (h .0)) (leb-true c 11 (h .1))
 
 numbered-book : (key : List ℕ) (way mark : ℕ) (f : List ℕ → List ℕ → List ℕ) (book out : List ℕ) → numbered (bookChecks (keyAndWay key way) mark f book out) ≡ true
 unfolding bookChecks formChecks recordsCheck keyCheck wayCheck outputCheck numbered

@@ -9,7 +9,7 @@ use lib.Dec.{eqb, leb}
 use lib.ListN.{length, getD}
 use Rattle.planbook_spec.specs.Outcome.{judged}
 use Rattle.planbook_spec.specs.Book.{formChecks}
-use Rattle.planbook_laws.specs.BookLaws.{and-left}
+use Rattle.clefia_spec.specs.Cases.{both-true}
 use borrow.Author.Needs.{needs}
 use Rattle.form.proofs.check_head.Statement.{statement}
 use Rattle.form.proofs.check_head.Tie as tie
@@ -25,7 +25,7 @@ six : (c : tie.Else2) → (eqb (getD (book (c .before .before)) 0 0) (c .before 
 six c = sym (c .before .headed .ensures) ∙ not-false _ (c .if2 .left)
 
 long : (c : tie.Else1) → 4 ≤ length (book c)
-long c = leb-true 4 (length (book c)) (and-left (leb 4 (length (book c))) (leb (length (book c)) 65532) (five c))
+long c = leb-true 4 (length (book c)) (both-true (leb 4 (length (book c))) (leb (length (book c)) 65532) (five c) .0)
 
 returns : tie.Need-returns
 unfolding formChecks judged

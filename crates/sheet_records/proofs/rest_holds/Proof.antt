@@ -1,7 +1,7 @@
 -- `sheet_records::rest_holds` meets its contract: `left` records are to come, the first of them at `at`.
 use Prim.Native.Nat.{ℕ, _+_, _-_, _^_}
 use mathlib.Core.Path.{_≡_, sym, ap, _∙_}
-use mathlib.Core.Bool.{Bool, false, _&&_}
+use mathlib.Core.Bool.{Bool, false, _&&_, and-true, and-false}
 use mathlib.Core.List.{List}
 use borrow.Author.Needs.{needs}
 use borrow.Author.Tests.{not-true, not-false}
@@ -12,7 +12,7 @@ use Rattle.clefia_spec.specs.Block.{decryptWords}
 use Rattle.planbook_spec.specs.Book.{recordHolds}
 use Rattle.entries.specs.Entry.{sheetOf}
 use Rattle.chain.specs.declared.Step.{Step}
-use Rattle.chain.specs.ChainLaws.{Decrypted, and-true, and-false, decrypted-broken, decrypted-step, decrypted-end}
+use Rattle.chain.specs.ChainLaws.{Decrypted, decrypted-broken, decrypted-step, decrypted-end}
 use Rattle.sheet_records.proofs.rest_holds.Statement.{statement}
 use Rattle.sheet_records.proofs.rest_holds.Tie as tie
 
