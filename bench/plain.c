@@ -133,11 +133,15 @@ INLINE struct quad network4(int way, const uint32_t *keys, int rounds, struct qu
     return (struct quad){t.d, t.a, t.b, t.c};
 }
 
-/* Two rounds backward. */
-INLINE void two_back(int way, const uint32_t *at, struct quad *t)
+/* The two rounds of a turn backward. */
+INLINE void first_back(int way, const uint32_t *at, struct quad *t)
 {
     t->b ^= f0(way, at[-2], t->a);
     t->d ^= f1(way, at[-1], t->c);
+}
+
+INLINE void second_back(int way, const uint32_t *at, struct quad *t)
+{
     t->a ^= f0(way, at[-4], t->d);
     t->c ^= f1(way, at[-3], t->b);
     *t = (struct quad){t->c, t->d, t->a, t->b};
@@ -145,23 +149,30 @@ INLINE void two_back(int way, const uint32_t *at, struct quad *t)
 
 INLINE void network4_back(int way, const uint32_t *keys, int rounds, struct quad *t)
 {
-    for (const uint32_t *at = keys + 2 * rounds; at > keys; at -= 4)
-        two_back(way, at, t);
+    for (const uint32_t *at = keys + 2 * rounds; at > keys; at -= 4) {
+        first_back(way, at, t);
+        second_back(way, at, t);
+    }
     *t = (struct quad){t->b, t->c, t->d, t->a};
 }
 
 /*
  * Four blocks through the same rounds: they fill the time that one waits for the
- * tables. Each has a name, since gcc keeps an array of them in memory.
+ * tables. All go through one round before the next. Each has a name, since gcc
+ * keeps an array of them in memory.
  */
 INLINE void network4_back_abreast(int way, const uint32_t *keys, int rounds, struct quad t[ABREAST])
 {
     struct quad t0 = t[0], t1 = t[1], t2 = t[2], t3 = t[3];
     for (const uint32_t *at = keys + 2 * rounds; at > keys; at -= 4) {
-        two_back(way, at, &t0);
-        two_back(way, at, &t1);
-        two_back(way, at, &t2);
-        two_back(way, at, &t3);
+        first_back(way, at, &t0);
+        first_back(way, at, &t1);
+        first_back(way, at, &t2);
+        first_back(way, at, &t3);
+        second_back(way, at, &t0);
+        second_back(way, at, &t1);
+        second_back(way, at, &t2);
+        second_back(way, at, &t3);
     }
     t[0] = (struct quad){t0.b, t0.c, t0.d, t0.a};
     t[1] = (struct quad){t1.b, t1.c, t1.d, t1.a};

@@ -1,13 +1,11 @@
--- Four rows: what is done to each, and two rounds on one row, half by half. A law is about one row; each row cites it.
+-- Four rows: what is done to each, and two rounds on one row. A law is about one row; each row cites it.
 use Prim.Native.Nat.{ℕ, _+_, _-_, _*_, _<_}
 use mathlib.Core.Path.{_≡_, refl}
-use mathlib.Core.List.{List, [], _∷_}
+use mathlib.Core.List.{List}
 use native.Mathlib.Omega.{arith}
-use lib.ListN.{length, getD}
-use Rattle.clefia_spec.specs.Words.{_⊕_}
+use lib.ListN.{getD}
 use Rattle.clefia_spec.specs.FFunction.{f0, f1}
-use Rattle.clefia_spec.specs.Network.{feistel, rotateBranches, rotateLeft, rotateRight, rounds, undoRounds}
-use Rattle.rows.specs.Rows.{spelled, spell}
+use Rattle.clefia_spec.specs.Network.{feistel, rotateLeft, rotateRight, rounds, undoRounds}
 use Rattle.network_rows.specs.declared.FourRows.{FourRows}
 use Rattle.network.specs.Laws.{rounds-step, undo-step}
 
@@ -17,13 +15,6 @@ each f s = record { a = f (s .a); b = f (s .b); c = f (s .c); d = f (s .d) }
 pub each-same : {f g : List ℕ → List ℕ} → ((s : List ℕ) → f s ≡ g s) → (t : FourRows) → each f t ≡ each g t
 each-same h t = rw (h (t .a), h (t .b), h (t .c), h (t .d))
 
--- The two halves of a Feistel step of four branches.
-unfoldable pub addF0 : ℕ → List ℕ → List ℕ
-addF0 k s = getD s 0 0 ∷ getD s 1 0 ⊕ f0 k (getD s 0 0) ∷ getD s 2 0 ∷ getD s 3 0 ∷ []
-
-unfoldable pub addF1 : ℕ → List ℕ → List ℕ
-addF1 k s = getD s 0 0 ∷ getD s 1 0 ∷ getD s 2 0 ∷ getD s 3 0 ⊕ f1 k (getD s 2 0) ∷ []
-
 -- The four keys that stand from place i of w on: those of two rounds.
 pub record Keys (w : List ℕ) (i k0 k1 k2 k3 : ℕ) : Type 0 where
   pub first : k0 ≡ getD w i 0
@@ -31,21 +22,20 @@ pub record Keys (w : List ℕ) (i k0 k1 k2 k3 : ℕ) : Type 0 where
   pub third : k2 ≡ getD w (i + 2) 0
   pub fourth : k3 ≡ getD w (i + 3) 0
 
--- Two rounds on the row s, and the same two taken back.
-module _ {w : List ℕ} {i k0 k1 k2 k3 : ℕ} (k : Keys w i k0 k1 k2 k3) (s : List ℕ) (long : length s ≡ 4) where
-  pub two-rounds : {t u v x : List ℕ} → t ≡ addF0 k0 s → u ≡ rotateLeft (addF1 k1 t) → v ≡ addF0 k2 u → x ≡ rotateLeft (addF1 k3 v)
-      → x ≡ rounds 2 f0 f1 2 w i s
-  unfolding spelled addF0 addF1 rotateBranches feistel rounds
-  two-rounds e f g h =
-      let p : i + 2 + 1 ≡ i + 3 = omega arith in
-      rw (h, g, f, e, spell 4 s long, k .first, k .second, k .third, k .fourth, p)
+-- The last of them, as the second of two rounds asks for it.
+pub last-key : {w : List ℕ} {i k0 k1 k2 k3 : ℕ} → Keys w i k0 k1 k2 k3 → k3 ≡ getD w (i + 2 + 1) 0
+last-key {i = i} k = let p : i + 2 + 1 ≡ i + 3 = omega arith in rw p (k .fourth)
 
-  pub two-undone : {t u v x : List ℕ} → t ≡ addF0 k2 (rotateRight s) → u ≡ addF1 k3 t → v ≡ addF0 k0 (rotateRight u) → x ≡ addF1 k1 v
-      → x ≡ undoRounds 2 f0 f1 2 w i s
-  unfolding spelled addF0 addF1 rotateBranches feistel undoRounds
-  two-undone e f g h =
-      let p : i + 2 + 1 ≡ i + 3 = omega arith in
-      rw (h, g, f, e, spell 4 s long, k .first, k .second, k .third, k .fourth, p)
+-- Two rounds on a row, and the same two taken back.
+pub two-rounds : (w : List ℕ) (i : ℕ) (s : List ℕ) {t u : List ℕ} → t ≡ rotateLeft (feistel f0 f1 w i s) → u ≡ rotateLeft (feistel f0 f1 w (i + 2) t)
+    → u ≡ rounds 2 f0 f1 2 w i s
+unfolding rounds
+two-rounds w i s e f = rw (f, e)
+
+pub two-undone : (w : List ℕ) (i : ℕ) (s : List ℕ) {t u : List ℕ} → t ≡ feistel f0 f1 w (i + 2) (rotateRight s) → u ≡ feistel f0 f1 w i (rotateRight t)
+    → u ≡ undoRounds 2 f0 f1 2 w i s
+unfolding undoRounds
+two-undone w i s e f = rw (f, e)
 
 -- Two rounds and the rest.
 pub two-more : (n : ℕ) (w : List ℕ) (i : ℕ) (s : List ℕ) → 0 < n →

@@ -2,11 +2,11 @@
 ghost use mathlib.Core.Path.{_≡_};
 ghost use mathlib.Core.List.{List};
 ghost use Prim.Native.Nat.{ℕ, _+_, _*_, _≤_};
-ghost use lib.ListN.{length};
+ghost use lib.ListN.{length, getD};
 ghost use Rattle.clefia_spec.specs.FFunction.{f0, f1};
-ghost use Rattle.clefia_spec.specs.Network.{rotateLeft, rotateRight, rounds, undoRounds, network4, inverseNetwork4};
+ghost use Rattle.clefia_spec.specs.Network.{feistel, rotateLeft, rotateRight, rounds, undoRounds, network4, inverseNetwork4};
 ghost use Rattle.ffunction.specs.Tables.{wordTables, Lent};
-ghost use Rattle.network_rows.specs.Four.{each, addF0, addF1, Keys};
+ghost use Rattle.network_rows.specs.Four.{each, Keys};
 use feistel::rotate_left4;
 use feistel::rotate_right4;
 use network::inverse_network4;
@@ -19,40 +19,27 @@ pub struct FourRows {
     pub d: [u32; 4],
 }
 
-// The two halves of a Feistel step of one row, with the round key k: F0, and F1.
-fn add_f0(words: &[[u32; 256]], k: u32, s: [u32; 4]) -> [u32; 4]
+// One round of one row, with the round keys a and b, in whatever row they stand.
+fn round_of_row(words: &[[u32; 256]], a: u32, b: u32, s: [u32; 4]) -> [u32; 4]
     requires { ⌜ now words ≡ wordTables ⌝ }
-    ensures { λ r. ⌜ r ≡ addF0 k s ⌝ }
+    ensures { λ r. ⌜ ((w : List ℕ) (i : ℕ) → a ≡ getD w i 0 → b ≡ getD w (i + 1) 0 → r ≡ rotateLeft (feistel f0 f1 w i s)) ⌝ }
 {
-    let y = ffunction::by_words(words, 0, k ^ s[0], s[1]);
-    [s[0], y, s[2], s[3]]
+    let y = ffunction::by_words(words, 0, a ^ s[0], s[1]);
+    let z = ffunction::by_words(words, 1, b ^ s[2], s[3]);
+    [y, s[2], z, s[0]]
 }
 
-fn add_f1(words: &[[u32; 256]], k: u32, s: [u32; 4]) -> [u32; 4]
+// The same round taken back: the row is rotated right first.
+fn undo_round_of_row(words: &[[u32; 256]], a: u32, b: u32, s: [u32; 4]) -> [u32; 4]
     requires { ⌜ now words ≡ wordTables ⌝ }
-    ensures { λ r. ⌜ r ≡ addF1 k s ⌝ }
+    ensures { λ r. ⌜ ((w : List ℕ) (i : ℕ) → a ≡ getD w i 0 → b ≡ getD w (i + 1) 0 → r ≡ feistel f0 f1 w i (rotateRight s)) ⌝ }
 {
-    let z = ffunction::by_words(words, 1, k ^ s[2], s[3]);
-    [s[0], s[1], s[2], z]
+    let y = ffunction::by_words(words, 0, a ^ s[3], s[0]);
+    let z = ffunction::by_words(words, 1, b ^ s[1], s[2]);
+    [s[3], y, s[1], z]
 }
 
-// The half that ends a round, and the one that begins a round taken back.
-fn add_f1_rotated(words: &[[u32; 256]], k: u32, s: [u32; 4]) -> [u32; 4]
-    requires { ⌜ now words ≡ wordTables ⌝ }
-    ensures { λ r. ⌜ r ≡ rotateLeft (addF1 k s) ⌝ }
-{
-    rotate_left4(add_f1(words, k, s))
-}
-
-fn rotated_add_f0(words: &[[u32; 256]], k: u32, s: [u32; 4]) -> [u32; 4]
-    requires { ⌜ now words ≡ wordTables ⌝ }
-    ensures { λ r. ⌜ r ≡ addF0 k (rotateRight s) ⌝ }
-{
-    add_f0(words, k, rotate_right4(s))
-}
-
-// Two rounds on each row, with four round keys that follow each other. Each half goes through all rows before the next, so that one round key is
-// held at a time.
+// Two rounds on each row, with four round keys that follow each other. All rows go through the first round before the second (DECISIONS).
 fn two_rounds(words: &[[u32; 256]], k0: u32, k1: u32, k2: u32, k3: u32, s: FourRows) -> FourRows
     requires { ⌜ now words ≡ wordTables ⌝ }
     ensures { λ r. ⌜ ((w : List ℕ) (i : ℕ) → Keys w i k0 k1 k2 k3 → r ≡ each (rounds 2 f0 f1 2 w i) s) ⌝ }
@@ -61,27 +48,15 @@ fn two_rounds(words: &[[u32; 256]], k0: u32, k1: u32, k2: u32, k3: u32, s: FourR
     let b = s.b;
     let c = s.c;
     let d = s.d;
-    let a1 = add_f0(words, k0, a);
-    let b1 = add_f0(words, k0, b);
-    let c1 = add_f0(words, k0, c);
-    let d1 = add_f0(words, k0, d);
-    let a2 = add_f1_rotated(words, k1, a1);
-    let b2 = add_f1_rotated(words, k1, b1);
-    let c2 = add_f1_rotated(words, k1, c1);
-    let d2 = add_f1_rotated(words, k1, d1);
-    let a3 = add_f0(words, k2, a2);
-    let b3 = add_f0(words, k2, b2);
-    let c3 = add_f0(words, k2, c2);
-    let d3 = add_f0(words, k2, d2);
-    let a4 = add_f1_rotated(words, k3, a3);
-    let b4 = add_f1_rotated(words, k3, b3);
-    let c4 = add_f1_rotated(words, k3, c3);
-    let d4 = add_f1_rotated(words, k3, d3);
+    let a1 = round_of_row(words, k0, k1, a);
+    let b1 = round_of_row(words, k0, k1, b);
+    let c1 = round_of_row(words, k0, k1, c);
+    let d1 = round_of_row(words, k0, k1, d);
     FourRows {
-        a: a4,
-        b: b4,
-        c: c4,
-        d: d4,
+        a: round_of_row(words, k2, k3, a1),
+        b: round_of_row(words, k2, k3, b1),
+        c: round_of_row(words, k2, k3, c1),
+        d: round_of_row(words, k2, k3, d1),
     }
 }
 
@@ -101,27 +76,15 @@ fn undo_two_rounds(
     let b = s.b;
     let c = s.c;
     let d = s.d;
-    let a1 = rotated_add_f0(words, k2, a);
-    let b1 = rotated_add_f0(words, k2, b);
-    let c1 = rotated_add_f0(words, k2, c);
-    let d1 = rotated_add_f0(words, k2, d);
-    let a2 = add_f1(words, k3, a1);
-    let b2 = add_f1(words, k3, b1);
-    let c2 = add_f1(words, k3, c1);
-    let d2 = add_f1(words, k3, d1);
-    let a3 = rotated_add_f0(words, k0, a2);
-    let b3 = rotated_add_f0(words, k0, b2);
-    let c3 = rotated_add_f0(words, k0, c2);
-    let d3 = rotated_add_f0(words, k0, d2);
-    let a4 = add_f1(words, k1, a3);
-    let b4 = add_f1(words, k1, b3);
-    let c4 = add_f1(words, k1, c3);
-    let d4 = add_f1(words, k1, d3);
+    let a1 = undo_round_of_row(words, k2, k3, a);
+    let b1 = undo_round_of_row(words, k2, k3, b);
+    let c1 = undo_round_of_row(words, k2, k3, c);
+    let d1 = undo_round_of_row(words, k2, k3, d);
     FourRows {
-        a: a4,
-        b: b4,
-        c: c4,
-        d: d4,
+        a: undo_round_of_row(words, k0, k1, a1),
+        b: undo_round_of_row(words, k0, k1, b1),
+        c: undo_round_of_row(words, k0, k1, c1),
+        d: undo_round_of_row(words, k0, k1, d1),
     }
 }
 
