@@ -60,7 +60,7 @@ fn two_rounds(words: &[[u32; 256]], k0: u32, k1: u32, k2: u32, k3: u32, s: FourR
     }
 }
 
-// The same two rounds taken back.
+// The same two rounds taken back. Which row goes first in the second one was measured (DECISIONS).
 fn undo_two_rounds(
     words: &[[u32; 256]],
     k0: u32,
@@ -80,11 +80,15 @@ fn undo_two_rounds(
     let b1 = undo_round_of_row(words, k2, k3, b);
     let c1 = undo_round_of_row(words, k2, k3, c);
     let d1 = undo_round_of_row(words, k2, k3, d);
+    let b2 = undo_round_of_row(words, k0, k1, b1);
+    let a2 = undo_round_of_row(words, k0, k1, a1);
+    let c2 = undo_round_of_row(words, k0, k1, c1);
+    let d2 = undo_round_of_row(words, k0, k1, d1);
     FourRows {
-        a: undo_round_of_row(words, k0, k1, a1),
-        b: undo_round_of_row(words, k0, k1, b1),
-        c: undo_round_of_row(words, k0, k1, c1),
-        d: undo_round_of_row(words, k0, k1, d1),
+        a: a2,
+        b: b2,
+        c: c2,
+        d: d2,
     }
 }
 

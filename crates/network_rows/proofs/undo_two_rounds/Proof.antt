@@ -10,8 +10,8 @@ returns c w i k =
     let h : tie.After-undo-round-of-row4 = c .before .before .before .before in
     let s : tie.Start = h .before .before .before .before .before .before .before .before in
     rw (
-      two-undone w i (s .args .s .a) (h .before .before .before .undo-round-of-row .ensures w (i + 2) (k .third) (last-key k)) (c .before .before .before .undo-round-of-row5 .ensures w i (k .first) (k .second)),
-      two-undone w i (s .args .s .b) (h .before .before .undo-round-of-row2 .ensures w (i + 2) (k .third) (last-key k)) (c .before .before .undo-round-of-row6 .ensures w i (k .first) (k .second)),
+      two-undone w i (s .args .s .a) (h .before .before .before .undo-round-of-row .ensures w (i + 2) (k .third) (last-key k)) (c .before .before .undo-round-of-row6 .ensures w i (k .first) (k .second)),
+      two-undone w i (s .args .s .b) (h .before .before .undo-round-of-row2 .ensures w (i + 2) (k .third) (last-key k)) (c .before .before .before .undo-round-of-row5 .ensures w i (k .first) (k .second)),
       two-undone w i (s .args .s .c) (h .before .undo-round-of-row3 .ensures w (i + 2) (k .third) (last-key k)) (c .before .undo-round-of-row7 .ensures w i (k .first) (k .second)),
       two-undone w i (s .args .s .d) (h .undo-round-of-row4 .ensures w (i + 2) (k .third) (last-key k)) (c .undo-round-of-row8 .ensures w i (k .first) (k .second)),
     )
