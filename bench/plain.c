@@ -19,7 +19,7 @@
 
 enum { BYTE_TABLES = 1, WORD_TABLES = 2, BY_RULES = 3 };
 enum { BLOCK = 16, HEAD = 4, ENTRY = 24, IV_AT = 8 };
-enum { MOST_BYTES = 65532, MOST_SHEETS = 64, MOST_RECORDS = 1024 };
+enum { MOST_BYTES = 65532, MOST_SHEETS = 64, MOST_RECORDS = 1024, MOST_REPLICATES = 8, REPLICATES_BY_DEFAULT = 4 };
 enum { CLEAR = 1, SEALED = 2 };
 enum { ABREAST = 4 };
 
@@ -396,7 +396,7 @@ static int entry_holds(const uint8_t *entry, uint32_t trial_before)
 {
     uint32_t count = load_word(entry + 4) >> 16;
     return load_word(entry) > trial_before && count >= 1 && count <= MOST_RECORDS
-        && entry[6] == 0 && entry[7] == 0;
+        && entry[6] <= MOST_REPLICATES && entry[7] == 0;
 }
 
 /* Checks 5 to 10; n and the sum of the record counts are handed back. */
@@ -422,20 +422,20 @@ static int check_format(uint8_t first, const uint8_t *book, size_t len, size_t *
     return len == HEAD + ENTRY * *n + BLOCK * *records ? 0 : 10;
 }
 
-INLINE int record_holds(const uint8_t *record, uint32_t trial)
+INLINE int record_holds(const uint8_t *record, uint32_t trial, uint32_t replicates)
 {
     struct quad r = load_quad(record);
-    return r.a == trial && r.b != 0 && (r.c >> 24) - 1 < 4 && (r.d & 0xffffff) == 0;
+    return r.a == trial && r.b != 0 && (r.c >> 24) - 1 < replicates && (r.d & 0xffffff) == 0;
 }
 
 /* Check 11, for the bodies of the n sheets in the contents. */
 static int records_hold(const uint8_t *contents, size_t n, const uint8_t *bodies)
 {
     for (const uint8_t *e = contents; e < contents + ENTRY * n; e += ENTRY) {
-        uint32_t trial = load_word(e);
+        uint32_t trial = load_word(e), replicates = e[6] == 0 ? REPLICATES_BY_DEFAULT : e[6];
         const uint8_t *end = bodies + BLOCK * (load_word(e + 4) >> 16);
         for (; bodies < end; bodies += BLOCK)
-            if (!record_holds(bodies, trial))
+            if (!record_holds(bodies, trial, replicates))
                 return 0;
     }
     return 1;

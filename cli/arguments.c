@@ -15,7 +15,7 @@ static const struct option_text options[OPTIONS] = {
     [KEY] = {"--key", "FILE", "the key: 16, 24 or 32 raw bytes, as keygen makes them"},
     [KEY_HEX] = {"--key-hex", "FILE", "the key in hexadecimal, with or without one line feed at the end"},
     [WAY] = {"--way", "N", "1 byte tables, 2 word tables (default), 3 S-boxes computed; the result is the same"},
-    [STARTS] = {"--starts", "CSV", "the trials' start blocks, to repeat a book exactly"},
+    [TRIALS] = {"--trials", "CSV", "the trials' numbers of replicates and start blocks"},
     [BITS] = {"--bits", "N", "the length of the new key: 128 (default), 192 or 256"},
     [CSV] = {"--csv", NULL, "give the plan as CSV; a name that ends in .csv does that by itself"},
     [JSON] = {"--json", NULL, "give JSON, for other programs"},
@@ -112,14 +112,24 @@ static bool asks_for_help(const char *word)
     return strcmp(word, "--help") == 0 || strcmp(word, "-h") == 0;
 }
 
+/* An option by its name. The file of trials had start blocks alone once, and the option's name of that time is still taken. */
+static size_t find_option(const char *name, size_t len)
+{
+    static const char former[] = "--starts";
+    if (len == strlen(former) && memcmp(former, name, len) == 0)
+        return TRIALS;
+    size_t i = 0;
+    while (i < OPTIONS && (strlen(options[i].name) != len || memcmp(options[i].name, name, len) != 0))
+        i++;
+    return i;
+}
+
 /* Options are written out whole, with the value after = or as the next word. Answers how many words were taken. */
 static int take_option(const struct verb *verb, struct arguments *given, char **words)
 {
     const char *equals = strchr(words[0], '=');
     size_t len = equals != NULL ? (size_t)(equals - words[0]) : strlen(words[0]);
-    size_t i = 0;
-    while (i < OPTIONS && (strlen(options[i].name) != len || memcmp(options[i].name, words[0], len) != 0))
-        i++;
+    size_t i = find_option(words[0], len);
     if (i == OPTIONS || !verb->takes[i])
         fail("%s has no option %.*s; planbook %s --help lists them", verb->name, (int)len, words[0], verb->name);
     if (given->value[i] != NULL)

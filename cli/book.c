@@ -41,12 +41,13 @@ size_t sheet_count(struct bytes book)
     return get_16(book.at + 2);
 }
 
-/* Contents entry: trial in four bytes, record count in two, two zero bytes, start block. */
-void put_entry(uint8_t *at, uint32_t trial, size_t count)
+/* Contents entry: trial in four bytes, record count in two, number of replicates in one, a zero byte, start block. */
+void put_entry(uint8_t *at, const struct sheet *sheet)
 {
-    put_32(at, trial);
-    put_16(at + 4, (uint32_t)count);
-    put_16(at + 6, 0);
+    put_32(at, sheet->trial);
+    put_16(at + 4, sheet->count);
+    at[6] = (uint8_t)sheet->replicates;
+    at[7] = 0;
 }
 
 static uint8_t *entry_of(struct bytes book, size_t sheet)
@@ -59,15 +60,20 @@ uint8_t *start_block_of(struct bytes book, size_t sheet)
     return entry_of(book, sheet) + 8;
 }
 
-bool entry_has_zeros(struct bytes book, size_t sheet)
+bool entry_has_zero(struct bytes book, size_t sheet)
 {
-    return get_16(entry_of(book, sheet) + 6) == 0;
+    return entry_of(book, sheet)[7] == 0;
 }
 
 struct sheet read_entry(struct bytes book, size_t sheet)
 {
     const uint8_t *entry = entry_of(book, sheet);
-    return (struct sheet){get_32(entry), get_16(entry + 4), start_block_of(book, sheet), NULL};
+    return (struct sheet){get_32(entry), get_16(entry + 4), entry[6], start_block_of(book, sheet), NULL};
+}
+
+uint32_t replicates_of(const struct sheet *sheet)
+{
+    return sheet->replicates == 0 ? PLANBOOK_DEFAULT_REPLICATES : sheet->replicates;
 }
 
 size_t read_sheets(struct bytes book, struct sheet sheets[PLANBOOK_MAX_SHEETS])

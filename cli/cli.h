@@ -13,6 +13,8 @@
  *   library.c     the calls of the library
  *   refusals.c    what the library refuses, in the words of the user's plan
  *   csv.c         lines and fields of a CSV text
+ *   lines.c       the lines of a plan and of a file of trials, sorted
+ *   trials.c      the file of trials: start blocks and numbers of replicates
  *   plan.c        plans as CSV become books, and books plans
  *   text.c        text in memory
  *   tables.c      books as tables for people
@@ -37,7 +39,7 @@ struct bytes {
 
 /* arguments.c */
 
-enum option { KEY, KEY_HEX, WAY, STARTS, BITS, CSV, JSON, FORCE, OPTIONS };
+enum option { KEY, KEY_HEX, WAY, TRIALS, BITS, CSV, JSON, FORCE, OPTIONS };
 
 #define MAX_WORDS 3
 
@@ -177,6 +179,7 @@ struct bytes draw_key(size_t len);
 struct sheet {
     uint32_t trial;
     uint32_t count;
+    uint32_t replicates;        /* as it stands in the book, where 0 is the default */
     const uint8_t *start_block; /* the field's IV */
     const uint8_t *records;
 };
@@ -190,14 +193,17 @@ size_t sheet_count(struct bytes book);
 
 /* A sheet of the contents without its records, from a book whose contents are there. */
 struct sheet read_entry(struct bytes book, size_t sheet);
-bool entry_has_zeros(struct bytes book, size_t sheet);
+bool entry_has_zero(struct bytes book, size_t sheet);
+
+/* The number of replicates that holds. */
+uint32_t replicates_of(const struct sheet *sheet);
 
 /* The sheets of an accepted book; answers how many. */
 size_t read_sheets(struct bytes book, struct sheet sheets[PLANBOOK_MAX_SHEETS]);
 struct record read_record(const struct sheet *sheet, size_t place);
 
 void put_head(uint8_t *at, size_t sheets);
-void put_entry(uint8_t *at, uint32_t trial, size_t count);
+void put_entry(uint8_t *at, const struct sheet *sheet); /* without the start block */
 uint8_t *start_block_of(struct bytes book, size_t sheet);
 void put_record(uint8_t *at, const struct record *record);
 
@@ -213,8 +219,8 @@ uint32_t call_library(book_call *call, struct bytes key, uint64_t way, struct by
 uint32_t check_clear_book(struct bytes book);
 uint32_t check_sealed_book(struct bytes book);
 
-/* The check of a clear book that has this record alone, in a sheet of this trial. */
-uint32_t check_record(uint32_t trial, const uint8_t *record);
+/* The check of a clear book that has this record alone, in a sheet of this trial and number of replicates. */
+uint32_t check_record(const struct sheet *sheet, const uint8_t *record);
 
 /* refusals.c */
 
@@ -223,7 +229,7 @@ void refuse_clear_book(const char *name, struct bytes book, uint32_t check) __at
 void refuse_sealed_book(const char *name, struct bytes book, uint32_t check) __attribute__((noreturn));
 
 /* What is wrong with a record or a trial number that the library has refused. */
-const char *record_fault(const struct record *record, uint32_t trial);
+const char *record_fault(const struct record *record, const struct sheet *sheet);
 
 /* csv.c */
 
@@ -243,8 +249,14 @@ struct csv {
     size_t place[MAX_USED_COLUMNS]; /* where the used columns stand in a line */
 };
 
-/* Begins with the header, in which each of the columns must have its name. The text is changed where quotes are undone. */
-void csv_begin(struct csv *csv, struct bytes text, const char *name, const char *const *columns, size_t count);
+/*
+ * Begins with the header, in which each of the columns has its name; those after the first needed ones may be absent. The text
+ * is changed where quotes are undone.
+ */
+void csv_begin(struct csv *csv, struct bytes text, const char *name, const char *const *columns, size_t count, size_t needed);
+
+/* Whether a column is there. */
+bool csv_has(const struct csv *csv, size_t column);
 
 /* Steps to the next line that can be used, and reports those that cannot. False at the end. */
 bool csv_next(struct csv *csv);
@@ -252,26 +264,92 @@ bool csv_next(struct csv *csv);
 /* A field of the current line, by the number of its column in csv_begin's list. */
 struct bytes csv_field(const struct csv *csv, size_t column);
 
+/* The decimal number that a field is. Answers false where it is none, or above the most. */
+bool csv_number(const struct csv *csv, size_t column, uint32_t most, uint32_t *number);
+
+/* The header that names these columns. */
+struct text;
+void csv_print_header(struct text *text, const char *const *columns, size_t count);
+
 /* Whether a text says that it is UTF-16, which is not read. */
 bool is_utf16(struct bytes text);
 
 /* A field as a message shows it: in quotes, cut where it is long. One in a message. */
 const char *csv_found(struct bytes field);
 
+/* lines.c */
+
+/* A line as read: a record for the plan; for the file of trials a trial, which stands in the record, and what belongs to it. */
+struct line {
+    struct record record;
+    uint8_t start_block[PLANBOOK_BLOCK_BYTES];
+    uint32_t replicates;
+    size_t line;
+};
+
+/* Sorting moves pointers alone: the C library sorts in memory of its own, which it does not wipe. */
+struct lines {
+    const char *name;
+    struct line *all;
+    const struct line **sorted;
+    size_t count;
+    struct bytes room[2];
+};
+
+/* Room for as many lines as the text can have. */
+struct lines new_lines(struct bytes text, const char *name);
+void release_lines(struct lines *lines);
+
+/* By trial, where lines of one trial keep their order; by trial, row and column. */
+void sort_by_trial(struct lines *lines);
+void sort_by_plot(struct lines *lines);
+bool same_plot(const struct record *x, const struct record *y);
+
+/* How many lines from this one on are of the same trial, in lines that are sorted; and how many trials there are. */
+size_t trial_lines(const struct lines *lines, size_t from);
+size_t count_trials(const struct lines *lines);
+
+/* trials.c */
+
+struct trials {
+    struct lines lines; /* sorted by trial */
+    bool has_start_blocks;
+    bool good; /* no fault was reported */
+};
+
+/* The file of trials; the name is for messages. */
+struct trials read_trials(struct bytes text, const char *name);
+
+/* The number of replicates that the file has for a trial: where it has none that can be relied on, the greatest there is. */
+uint32_t replicates_for(const struct trials *trials, uint32_t trial);
+
+/* Reports trials of a sorted plan that the file does not have, and such as the plan does not have. */
+void match_trials(const struct lines *plan, const struct trials *trials);
+
+/* Reports start blocks that are zero or shared in an accepted clear book, or warns of them. */
+void report_start_blocks(const char *name, struct bytes book);
+void warn_of_start_blocks(const char *name, struct bytes book);
+
+/* Warns that a plan alone does not tell the numbers of replicates that an accepted book has. */
+void warn_of_replicates(const char *name, struct bytes book);
+
+/* The file of trials of an accepted book. */
+struct bytes unpack_trials(struct bytes book);
+
 /* plan.c */
 
 /* Whether an input is a plan rather than a book: it begins with text. */
 bool is_plan(struct bytes input);
 
-/* The clear book of a plan, accepted by the library; the names are for messages. Where starts is null, start blocks are drawn. */
-struct bytes pack_plan(struct bytes plan, const char *plan_name, const struct bytes *starts, const char *starts_name);
+/* Whether start blocks of a file of trials are used. Where there are none, or none are used, they are drawn. */
+enum start_blocks { AS_GIVEN, ALWAYS_DRAWN };
 
-/* Warns of start blocks that are zero or shared in an accepted clear book. */
-void warn_of_start_blocks(const char *name, struct bytes book);
+/* The clear book of a plan, accepted by the library; the names are for messages. Where there is no file of trials, trials is null. */
+struct bytes pack_plan(struct bytes plan, const char *plan_name, const struct bytes *trials, const char *trials_name,
+                       enum start_blocks start_blocks);
 
-/* The two CSV files of an accepted clear book. */
+/* The plan of an accepted clear book. */
 struct bytes unpack_plan(struct bytes book);
-struct bytes unpack_starts(struct bytes book);
 
 /* text.c */
 

@@ -6,11 +6,13 @@
 #define _POSIX_C_SOURCE 200809L
 #include "cli.h"
 
+#include <ctype.h>
 #include <stdio.h>
 #include <string.h>
 #include <strings.h>
 
 #define MOST_SHOWN 40
+#define ABSENT SIZE_MAX
 
 const char *csv_found(struct bytes field)
 {
@@ -122,9 +124,27 @@ bool csv_next(struct csv *csv)
     return false;
 }
 
+bool csv_has(const struct csv *csv, size_t column)
+{
+    return csv->place[column] != ABSENT;
+}
+
 struct bytes csv_field(const struct csv *csv, size_t column)
 {
     return csv->fields[csv->place[column]];
+}
+
+bool csv_number(const struct csv *csv, size_t column, uint32_t most, uint32_t *number)
+{
+    struct bytes field = csv_field(csv, column);
+    uint64_t value = 0;
+    bool good = field.len > 0;
+    for (size_t i = 0; good && i < field.len; i++) {
+        value = 10 * value + (uint64_t)(field.at[i] - '0');
+        good = field.at[i] >= '0' && field.at[i] <= '9' && value <= most;
+    }
+    *number = (uint32_t)value;
+    return good;
 }
 
 /* The header */
@@ -146,23 +166,51 @@ static bool has_name(struct bytes field, const char *name)
     return field.len == strlen(name) && strncasecmp((const char *)field.at, name, field.len) == 0;
 }
 
-static void find_column(struct csv *csv, const char *const *columns, size_t count, size_t column)
+/* Whether a name has the same letters, whatever stands between and after them, or lacks only the s at the end. */
+static bool resembles(struct bytes field, const char *name)
 {
-    size_t matches = 0;
+    size_t i = 0;
+    for (; *name != '\0'; name++) {
+        if (!isalpha((unsigned char)*name))
+            continue;
+        while (i < field.len && !isalpha(field.at[i]))
+            i++;
+        if (i == field.len)
+            return strcmp(name, "s") == 0;
+        if (tolower(field.at[i++]) != *name)
+            return false;
+    }
+    return true;
+}
+
+/* A misspelt column that may be absent would go unnoticed, and another book be made. */
+static void refuse_misspelt(const struct csv *csv, const char *name)
+{
     for (size_t i = 0; i < csv->field_count; i++)
-        if (has_name(csv->fields[i], columns[column])) {
-            csv->place[column] = i;
-            matches++;
-        }
-    if (matches > 1)
-        fail("%s, line 1: there is more than one column \"%s\"", csv->name, columns[column]);
-    if (matches == 1)
-        return;
+        if (resembles(csv->fields[i], name))
+            fail("%s, line 1: the column %s is not known; if it is meant as \"%s\", name it so", csv->name, csv_found(csv->fields[i]),
+                 name);
+}
+
+static void refuse_without(const struct csv *csv, const char *const *columns, size_t count, size_t column)
+{
     char names[128] = "";
     for (size_t i = 0; i < count; i++)
         snprintf(names + strlen(names), sizeof names - strlen(names), "%s%s", i > 0 ? "," : "", columns[i]);
     fail("%s, line 1: there is no column \"%s\" in the header, which begins with %s; the columns are %s", csv->name, columns[column],
          csv_found(csv->fields[0]), names);
+}
+
+/* Where the column stands, or that it is absent. */
+static void find_column(struct csv *csv, const char *const *columns, size_t column)
+{
+    csv->place[column] = ABSENT;
+    for (size_t i = 0; i < csv->field_count; i++)
+        if (has_name(csv->fields[i], columns[column])) {
+            if (csv_has(csv, column))
+                fail("%s, line 1: there is more than one column \"%s\"", csv->name, columns[column]);
+            csv->place[column] = i;
+        }
 }
 
 static void warn_of_others(const struct csv *csv, size_t count)
@@ -190,7 +238,7 @@ static void refuse_other_kinds(struct bytes text, const char *name)
         fail("%s is UTF-16 text: save it as CSV in UTF-8", name);
 }
 
-void csv_begin(struct csv *csv, struct bytes text, const char *name, const char *const *columns, size_t count)
+void csv_begin(struct csv *csv, struct bytes text, const char *name, const char *const *columns, size_t count, size_t needed)
 {
     static const uint8_t mark[] = {0xef, 0xbb, 0xbf};
     refuse_other_kinds(text, name);
@@ -203,7 +251,18 @@ void csv_begin(struct csv *csv, struct bytes text, const char *name, const char 
     if (csv->fault != NULL || csv->field_count > MAX_COLUMNS)
         fail("%s, line 1: %s", name, csv->fault != NULL ? csv->fault : "there are more than 256 columns");
     csv->column_count = csv->field_count;
-    for (size_t column = 0; column < count; column++)
-        find_column(csv, columns, count, column);
+    for (size_t column = 0; column < count; column++) {
+        find_column(csv, columns, column);
+        if (!csv_has(csv, column) && column < needed)
+            refuse_without(csv, columns, count, column);
+        if (!csv_has(csv, column))
+            refuse_misspelt(csv, columns[column]);
+    }
     warn_of_others(csv, count);
+}
+
+void csv_print_header(struct text *text, const char *const *columns, size_t count)
+{
+    for (size_t i = 0; i < count; i++)
+        text_print(text, "%s%s", columns[i], i + 1 < count ? "," : "\n");
 }

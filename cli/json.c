@@ -1,6 +1,6 @@
 /*
- * Accepted books as JSON: one object or array, with a line for each sheet and each record. All values are numbers, or strings
- * of letters and digits, so nothing has to be escaped.
+ * Accepted books as JSON: one object or array, with a line for each sheet and each record. All values are numbers, true or
+ * false, or strings of letters and digits, so nothing has to be escaped.
  */
 #include "cli.h"
 
@@ -20,7 +20,9 @@ static void print_contents(struct text *to, const struct sheet *sheets, size_t n
 {
     text_print(to, " \"sheets\": [\n");
     for (size_t i = 0; i < n; i++) {
-        text_print(to, "  {\"trial\": %u, \"count\": %u, \"start_block\": \"", (unsigned)sheets[i].trial, (unsigned)sheets[i].count);
+        text_print(to, "  {\"trial\": %u, \"count\": %u, \"replicates\": %u, \"replicates_by_default\": %s, \"start_block\": \"",
+                   (unsigned)sheets[i].trial, (unsigned)sheets[i].count, (unsigned)replicates_of(&sheets[i]),
+                   sheets[i].replicates == 0 ? "true" : "false");
         text_print_hex(to, sheets[i].start_block, PLANBOOK_BLOCK_BYTES);
         text_print(to, "\"}%s\n", comma(i, n));
     }

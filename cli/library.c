@@ -32,12 +32,13 @@ uint32_t check_sealed_book(struct bytes book)
     return check == PLANBOOK_CHECK_RECORD ? PLANBOOK_ACCEPTED : check;
 }
 
-uint32_t check_record(uint32_t trial, const uint8_t *record)
+uint32_t check_record(const struct sheet *sheet, const uint8_t *record)
 {
+    struct sheet alone = {sheet->trial, 1, sheet->replicates, NULL, NULL};
     struct bytes book = new_bytes(PLANBOOK_HEAD_BYTES + PLANBOOK_ENTRY_BYTES + PLANBOOK_RECORD_BYTES);
     memset(book.at, 0, book.len);
     put_head(book.at, 1);
-    put_entry(book.at + PLANBOOK_HEAD_BYTES, trial, 1);
+    put_entry(book.at + PLANBOOK_HEAD_BYTES, &alone);
     memcpy(book.at + PLANBOOK_HEAD_BYTES + PLANBOOK_ENTRY_BYTES, record, PLANBOOK_RECORD_BYTES);
     uint32_t check = check_clear_book(book);
     release(&book);

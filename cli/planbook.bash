@@ -11,13 +11,13 @@ _planbook() {
     fi
     case $verb in
     keygen) options='--bits' ;;
-    check) options='--starts' ;;
-    seal) options='--key --key-hex --way --force' ;;
-    open) options='--key --key-hex --way --csv --force' ;;
+    check) options='--trials' ;;
+    seal) options='--key --key-hex --way --trials --force' ;;
+    open) options='--key --key-hex --way --trials --csv --force' ;;
     show) options='--key --key-hex --json --force' ;;
     labels) options='--json --force' ;;
     find) options='--key --key-hex --json' ;;
-    pack | unpack) options='--starts --force' ;;
+    pack | unpack) options='--trials --force' ;;
     esac
     case $before in
     --way) mapfile -t COMPREPLY < <(compgen -W '1 2 3' -- "$word") ;;

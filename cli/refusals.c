@@ -47,8 +47,11 @@ static void refuse_entry(const char *name, struct bytes book)
         if (sheet.count < 1 || sheet.count > PLANBOOK_MAX_SHEET_RECORDS)
             refuse(PLANBOOK_CHECK_ENTRY, "%s: trial %u has %s plots, and a trial has 1 to %s", name, trial, grouped(sheet.count),
                    grouped(PLANBOOK_MAX_SHEET_RECORDS));
-        if (!entry_has_zeros(book, i))
-            refuse(PLANBOOK_CHECK_ENTRY, "%s: the two reserved bytes of trial %u in the contents are not zero", name, trial);
+        if (sheet.replicates > PLANBOOK_MAX_REPLICATES)
+            refuse(PLANBOOK_CHECK_ENTRY, "%s: trial %u has %u replicates, and a trial has at most %d", name, trial,
+                   (unsigned)sheet.replicates, PLANBOOK_MAX_REPLICATES);
+        if (!entry_has_zero(book, i))
+            refuse(PLANBOOK_CHECK_ENTRY, "%s: the reserved byte of trial %u in the contents is not zero", name, trial);
         before = sheet.trial;
     }
     refuse(PLANBOOK_CHECK_ENTRY, "%s: %s", name, planbook_check_sentence(PLANBOOK_CHECK_ENTRY));
@@ -64,17 +67,21 @@ static void refuse_body_length(const char *name, struct bytes book)
            book.len < said ? "its end is missing" : "something was added");
 }
 
-const char *record_fault(const struct record *record, uint32_t trial)
+const char *record_fault(const struct record *record, const struct sheet *sheet)
 {
     static char text[80];
+    unsigned trial = (unsigned)sheet->trial, replicates = (unsigned)replicates_of(sheet);
     if (trial == 0)
         return "trial 0, but trials begin at 1";
     if (record->entry == 0)
         return "entry 0, but entries begin at 1";
+    if (record->replicate == 0)
+        return "replicate 0, but replicates begin at 1";
     if (record->trial != trial)
-        snprintf(text, sizeof text, "a record of trial %u in the sheet of trial %u", (unsigned)record->trial, (unsigned)trial);
-    else if (record->replicate < 1 || record->replicate > 4)
-        snprintf(text, sizeof text, "replicate %u, but a replicate is 1 to 4", (unsigned)record->replicate);
+        snprintf(text, sizeof text, "a record of trial %u in the sheet of trial %u", (unsigned)record->trial, trial);
+    else if (record->replicate > replicates)
+        snprintf(text, sizeof text, "replicate %u, but trial %u has %u%s", (unsigned)record->replicate, trial, replicates,
+                 sheet->replicates == 0 ? ", the default" : "");
     else
         return "the last three bytes of the record are not zero";
     return text;
@@ -87,10 +94,10 @@ static void refuse_record(const char *name, struct bytes book)
     size_t n = read_sheets(book, sheets);
     for (size_t i = 0; i < n; i++)
         for (size_t place = 0; place < sheets[i].count; place++)
-            if (check_record(sheets[i].trial, sheets[i].records + PLANBOOK_RECORD_BYTES * place) != PLANBOOK_ACCEPTED) {
+            if (check_record(&sheets[i], sheets[i].records + PLANBOOK_RECORD_BYTES * place) != PLANBOOK_ACCEPTED) {
                 struct record record = read_record(&sheets[i], place);
                 refuse(PLANBOOK_CHECK_RECORD, "%s, trial %u, place %zu: %s", name, (unsigned)sheets[i].trial, place,
-                       record_fault(&record, sheets[i].trial));
+                       record_fault(&record, &sheets[i]));
             }
     refuse(PLANBOOK_CHECK_RECORD, "%s: %s", name, planbook_check_sentence(PLANBOOK_CHECK_RECORD));
 }

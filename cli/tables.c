@@ -9,9 +9,10 @@ static void print_contents(struct text *to, struct bytes book, const struct shee
     text_print(to, "%s plan book: sheets %zu, records %zu, bytes %zu\n", book.at[0] == PLANBOOK_SEALED ? "sealed" : "clear", n,
                records, book.len);
     if (n > 0)
-        text_print(to, "\n%10s %7s  %s\n", "TRIAL", "RECORDS", "START BLOCK");
+        text_print(to, "\n%10s %7s %10s %-9s  %s\n", "TRIAL", "RECORDS", "REPLICATES", "", "START BLOCK");
     for (size_t i = 0; i < n; i++) {
-        text_print(to, "%10u %7u  ", (unsigned)sheets[i].trial, (unsigned)sheets[i].count);
+        text_print(to, "%10u %7u %10u %-9s  ", (unsigned)sheets[i].trial, (unsigned)sheets[i].count,
+                   (unsigned)replicates_of(&sheets[i]), sheets[i].replicates == 0 ? "(default)" : "");
         text_print_hex(to, sheets[i].start_block, PLANBOOK_BLOCK_BYTES);
         text_print(to, "\n");
     }

@@ -96,15 +96,36 @@ static struct bytes sealed_book(const char *name)
     return book;
 }
 
-/* The plan that pack, check and seal are given, with start blocks from a file or drawn. */
-static struct bytes packed_plan(struct bytes plan, const char *name, const char *starts_name)
+/* The plan that pack, check and seal are given, with what a file of trials says. */
+static struct bytes packed_plan(const struct arguments *given, struct bytes plan, enum start_blocks start_blocks)
 {
-    struct bytes starts = {NULL, 0};
-    if (starts_name != NULL)
-        starts = read_csv(starts_name);
-    struct bytes book = pack_plan(plan, input_title(name), starts_name != NULL ? &starts : NULL, input_title(starts_name));
-    release(&starts);
+    const char *name = given->value[TRIALS];
+    struct bytes trials = {NULL, 0};
+    if (name != NULL)
+        trials = read_csv(name);
+    struct bytes book =
+        pack_plan(plan, input_title(given->words[0]), name != NULL ? &trials : NULL, input_title(name), start_blocks);
+    release(&trials);
     return book;
+}
+
+/* The plan that unpack and open give, and the file of trials where one is named. */
+static void write_plan(const struct arguments *given, struct bytes book)
+{
+    const char *name = given->value[TRIALS];
+    struct output outputs[] = {{given->words[1], unpack_plan(book), true, given_force(given)},
+                               {name, unpack_trials(book), true, given_force(given)}};
+    if (name == NULL)
+        warn_of_replicates(input_title(given->words[0]), book);
+    write_outputs(outputs, name != NULL ? 2 : 1);
+    release(&outputs[0].bytes);
+    release(&outputs[1].bytes);
+}
+
+static void expect_two_places(const struct arguments *given)
+{
+    if (given->value[TRIALS] != NULL && is_standard(given->words[1]) && is_standard(given->value[TRIALS]))
+        fail("plan and trials cannot both go to standard output");
 }
 
 /* A keyed call; what the library refuses of key and way is told here, what it refuses of the book by refuse_book. */
@@ -146,7 +167,7 @@ void run_check(const struct arguments *given)
 {
     struct sheet sheets[PLANBOOK_MAX_SHEETS];
     struct bytes plan = read_csv(given->words[0]);
-    struct bytes book = packed_plan(plan, given->words[0], given->value[STARTS]);
+    struct bytes book = packed_plan(given, plan, AS_GIVEN);
     size_t records = 0, trials = read_sheets(book, sheets);
     for (size_t i = 0; i < trials; i++)
         records += sheets[i].count;
@@ -167,8 +188,10 @@ void run_seal(const struct arguments *given)
         struct bytes plan = book;
         if (plan.len > CSV_LIMIT)
             fail("%s: too long for a plan, above %s bytes", input_title(name), grouped(CSV_LIMIT));
-        book = packed_plan(plan, name, NULL);
+        book = packed_plan(given, plan, ALWAYS_DRAWN);
         release(&plan);
+    } else if (given->value[TRIALS] != NULL) {
+        fail("%s is not a plan (CSV), and --trials goes with a plan: a book has its trials in its contents", input_title(name));
     }
     struct bytes sealed = recode(given, planbook_encrypt_book, book, refuse_clear_book);
     if (!from_plan)
@@ -180,8 +203,11 @@ void run_seal(const struct arguments *given)
 void run_open(const struct arguments *given)
 {
     bool to_plan = gives_plan(given);
+    if (!to_plan && given->value[TRIALS] != NULL)
+        fail("--trials goes with a plan: name an output that ends in .csv, or give --csv");
     if (!to_plan)
         expect_no_terminal(given->words[1]);
+    expect_two_places(given);
     struct bytes sealed = read_book(given->words[0]);
     struct bytes book = opened(given, sealed);
     release(&sealed);
@@ -189,9 +215,8 @@ void run_open(const struct arguments *given)
         write_one(given->words[1], book, true, given_force(given));
         return;
     }
-    struct bytes plan = unpack_plan(book);
+    write_plan(given, book);
     release(&book);
-    write_one(given->words[1], plan, true, given_force(given));
 }
 
 /* A book that says it is sealed is judged as one, any other as a clear one. With a key it must be a sealed one. */
@@ -263,22 +288,15 @@ void run_pack(const struct arguments *given)
 {
     expect_no_terminal(given->words[1]);
     struct bytes plan = read_csv(given->words[0]);
-    struct bytes book = packed_plan(plan, given->words[0], given->value[STARTS]);
+    struct bytes book = packed_plan(given, plan, AS_GIVEN);
     release(&plan);
     write_one(given->words[1], book, true, given_force(given));
 }
 
 void run_unpack(const struct arguments *given)
 {
-    enum existing existing = given_force(given);
-    const char *starts_name = given->value[STARTS];
-    if (starts_name != NULL && is_standard(given->words[1]) && is_standard(starts_name))
-        fail("plan and start blocks cannot both go to standard output");
+    expect_two_places(given);
     struct bytes book = clear_book(given->words[0]);
-    struct output outputs[] = {{given->words[1], unpack_plan(book), true, existing},
-                               {starts_name, unpack_starts(book), true, existing}};
-    write_outputs(outputs, starts_name != NULL ? 2 : 1);
+    write_plan(given, book);
     release(&book);
-    release(&outputs[0].bytes);
-    release(&outputs[1].bytes);
 }

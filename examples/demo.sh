@@ -27,9 +27,9 @@ mkdir -p "$books"
 say "A key for the season, drawn by the system: only you can read it"
 run keygen --bits 256 "$books/season.key"
 
-say "The plan (CSV) is checked, and sealed in one step"
-run check "$here/plan.csv"
-run seal --key "$books/season.key" "$here/plan.csv" "$books/sealed.book"
+say "The plan (CSV) is checked, and sealed in one step; a second file says that the seedlings of trial 2210 have eight replicates"
+run check --trials "$here/trials.csv" "$here/plan.csv"
+run seal --key "$books/season.key" --trials "$here/trials.csv" "$here/plan.csv" "$books/sealed.book"
 
 say "Its digest goes to the receiver by another way than the book: by telephone, on paper"
 (cd "$books" && echo "$ sha256sum sealed.book >sealed.book.sha256" && sha256sum sealed.book >sealed.book.sha256 && cat sealed.book.sha256)
@@ -42,7 +42,7 @@ run labels "$books/sealed.book"
 
 say "The receiver compares the digest before opening: a book may have been changed on its way, and opening does not show that"
 (cd "$books" && echo "$ sha256sum -c sealed.book.sha256" && sha256sum -c sealed.book.sha256)
-run open --key "$books/season.key" "$books/sealed.book" "$books/plan.csv"
+run open --key "$books/season.key" --trials "$books/trials.csv" "$books/sealed.book" "$books/plan.csv"
 same "$books/plan.csv" "$here/plan.csv"
 echo "The plan is the same, byte for byte."
 
@@ -50,8 +50,11 @@ say "A label read in the field: which plot is it?"
 label=$("$command" labels "$books/sealed.book" | sed -n '12s/.* //p')
 run find --key "$books/season.key" "$books/sealed.book" "$label"
 
-say "Step by step: the clear book by itself, with start blocks from a file, so that it can be made again exactly"
-run pack --starts "$here/starts.csv" "$here/plan.csv" "$books/clear.book"
+say "Step by step: the clear book by itself. The file of trials has the start blocks too now, so the very same book is made again"
+run pack --trials "$books/trials.csv" "$books/plan.csv" "$books/clear.book"
+run seal --key "$books/season.key" "$books/clear.book" "$books/again.book"
+same "$books/again.book" "$books/sealed.book"
+echo "Sealed again, it is the same book, byte for byte."
 
 say "It is sealed by each of the three ways, under an example key that is no secret"
 install -m 600 "$here/example-key-not-secret.hex" "$books/example-key-not-secret.hex"

@@ -5,6 +5,7 @@
  *
  * A plan book is a byte string that says which plants of a field trial stand where. It has a head, a table of contents
  * with one entry for each sheet (one sheet to a trial), and the bodies of the sheets, which are records of 16 bytes.
+ * Each trial chooses its number of replicates, up to 8; it stands in the contents entry, where 0 means 4.
  * A clear book begins with 01 00, a sealed one with 02 00. Sealing encrypts every body with CLEFIA in CBC mode: each
  * sheet has a chain of its own, which begins at the start block (the field's word: IV) that stands in its contents
  * entry. Head and contents are copied, but for the first byte. A sealed book is as long as the clear one. The format is
@@ -54,7 +55,7 @@
  *   all keys and records.
  * - Who wrote a book. Sealing is not authenticated: a changed sealed book may open as another plan. Compare its digest.
  * - The right key. A wrong key mostly meets check 11, but a book may open under it as another plan.
- * - Secrecy of the contents. Trials, record counts and start blocks stay readable in a sealed book.
+ * - Secrecy of the contents. Trials, record counts, numbers of replicates and start blocks stay readable in a sealed book.
  * - Keys and start blocks. The caller draws them. Use a start block once under a key; it should not be predictable.
  * - Wiping. No call wipes what it leaves on the stack; planbook_wipe_stack does. Registers are not wiped, nor copies that
  *   the system made of registers and memory.
@@ -70,7 +71,7 @@
 extern "C" {
 #endif
 
-#define PLANBOOK_VERSION "0.2.0"
+#define PLANBOOK_VERSION "1.0.0"
 
 /* Not part of the interface: a cast that neither language warns of, and the compiler's attributes. */
 #ifdef __cplusplus
@@ -110,6 +111,8 @@ extern "C" {
 #define PLANBOOK_RECORD_BYTES 16
 #define PLANBOOK_MAX_SHEETS 64
 #define PLANBOOK_MAX_SHEET_RECORDS 1024
+#define PLANBOOK_MAX_REPLICATES 8
+#define PLANBOOK_DEFAULT_REPLICATES 4 /* what 0 in byte 6 of a contents entry stands for, as in the books of past seasons */
 #define PLANBOOK_MIN_BOOK_BYTES 4
 #define PLANBOOK_MAX_BOOK_BYTES 65532
 
@@ -230,11 +233,11 @@ static inline const char *planbook_check_sentence(uint32_t check)
     case PLANBOOK_CHECK_CONTENTS_CUT: return "the book ends before its contents do";
     case PLANBOOK_CHECK_ENTRY:
         return "a contents entry is broken: its trial is 0 or not above the one before, its record count is not 1 to 1024, "
-               "or a reserved byte is not zero";
+               "its number of replicates is above 8, or its reserved byte is not zero";
     case PLANBOOK_CHECK_BODY_LENGTH: return "the book is not as long as its contents say";
     case PLANBOOK_CHECK_RECORD:
-        return "a record breaks its rule: its sheet's trial, entry at least 1, replicate 1 to 4, three zero bytes at the "
-               "end; in opening, the key may be the wrong one";
+        return "a record breaks its rule: its sheet's trial, entry at least 1, replicate from 1 to its sheet's number of "
+               "replicates, three zero bytes at the end; in opening, the key may be the wrong one";
     default: return "there is no check of this number";
     }
 }

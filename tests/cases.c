@@ -126,9 +126,20 @@ static size_t just_above(generator *g, size_t limit)
     return random_between(g, limit + 1, random_chance(g, 2) ? limit + 2 : 65535);
 }
 
+/* A byte that is above a limit, often by one only. */
+static uint8_t byte_above(generator *g, unsigned limit)
+{
+    return (uint8_t)random_between(g, limit + 1, random_chance(g, 2) ? limit + 1 : 255);
+}
+
+static size_t load_half(const uint8_t *bytes)
+{
+    return (size_t)bytes[0] << 8 | bytes[1];
+}
+
 static size_t sheets_of(const uint8_t *book)
 {
-    return (size_t)book[2] << 8 | book[3];
+    return load_half(book + 2);
 }
 
 static uint8_t *entry_at(uint8_t *book, size_t i)
@@ -136,12 +147,22 @@ static uint8_t *entry_at(uint8_t *book, size_t i)
     return book + HEAD_LENGTH + ENTRY_LENGTH * i;
 }
 
-static void make_record(generator *g, const uint8_t *trial, uint8_t *record)
+/* The entry of the sheet that a record of the bodies belongs to. */
+static const uint8_t *entry_of_record(uint8_t *book, size_t record)
 {
+    const uint8_t *entry = entry_at(book, 0);
+    for (; record >= load_half(entry + 4); entry += ENTRY_LENGTH)
+        record -= load_half(entry + 4);
+    return entry;
+}
+
+static void make_record(generator *g, const uint8_t *entry, uint8_t *record)
+{
+    unsigned replicates = reference_replicates(entry);
     memset(record, 0, RECORD_LENGTH);
-    memcpy(record, trial, 4);
+    memcpy(record, entry, 4);
     reference_store_word(record + 4, (uint32_t)random_between(g, 1, random_chance(g, 8) ? UINT32_MAX : 500));
-    record[8] = (uint8_t)random_between(g, 1, MAX_REPLICATE);
+    record[8] = (uint8_t)random_between(g, random_chance(g, 4) ? replicates : 1, replicates);
     random_fill(g, record + 9, 4);
 }
 
@@ -160,7 +181,8 @@ size_t make_clear_book(generator *g, const book_shape *shape, uint8_t *book)
             trial = UINT32_MAX;
         reference_store_word(entry, trial);
         put_half(entry + 4, shape->counts[i]);
-        put_half(entry + 6, 0);
+        entry[6] = (uint8_t)(random_chance(g, 3) ? 0 : random_between(g, 1, MAX_REPLICATES));
+        entry[7] = 0;
         random_fill(g, entry + 8, REFERENCE_BLOCK);
         for (size_t j = 0; j < shape->counts[i]; j++, record += RECORD_LENGTH)
             make_record(g, entry, record);
@@ -213,15 +235,17 @@ static void damage_record(generator *g, uint8_t *book, size_t len)
 {
     size_t start = HEAD_LENGTH + ENTRY_LENGTH * sheets_of(book);
     size_t records = (len - start) / RECORD_LENGTH;
+    size_t number;
     uint8_t *record;
     if (records == 0)
         return;
-    record = book + start + RECORD_LENGTH * random_below(g, records);
+    number = random_below(g, records);
+    record = book + start + RECORD_LENGTH * number;
     switch (random_below(g, 5)) {
     case 0: record[random_below(g, 4)] ^= (uint8_t)random_between(g, 1, 255); break;
     case 1: reference_store_word(record + 4, 0); break;
     case 2: record[8] = 0; break;
-    case 3: record[8] = (uint8_t)(random_chance(g, 2) ? 5 : random_between(g, 5, 255)); break;
+    case 3: record[8] = byte_above(g, reference_replicates(entry_of_record(book, number))); break;
     default: record[random_between(g, 13, 15)] = (uint8_t)random_between(g, 1, 255); break;
     }
 }
@@ -230,17 +254,18 @@ static void damage_entry(generator *g, uint8_t *book)
 {
     size_t i = random_below(g, sheets_of(book));
     uint8_t *entry = entry_at(book, i);
-    switch (random_below(g, 6)) {
+    switch (random_below(g, 7)) {
     case 0: put_half(entry + 4, 0); break;
     case 1: put_half(entry + 4, just_above(g, MAX_RECORDS)); break;
-    case 2: entry[random_between(g, 6, 7)] = (uint8_t)random_between(g, 1, 255); break;
-    case 3:
+    case 2: entry[6] = byte_above(g, MAX_REPLICATES); break;
+    case 3: entry[7] = (uint8_t)random_between(g, 1, 255); break;
+    case 4:
         if (i > 0) {
             memcpy(entry, entry - ENTRY_LENGTH, 4);
             break;
         }
         /* fall through */
-    case 4:
+    case 5:
         if (i > 0) {
             reference_store_word(entry, reference_load_word(entry - ENTRY_LENGTH) - 1);
             break;

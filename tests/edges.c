@@ -145,8 +145,10 @@ static void expect_entry(size_t i, unsigned at, uint8_t value, const char *what)
 static void check_entries(void)
 {
     for (size_t i = 0; i < 3; i++) {
-        expect_entry(i, 6, 1, "first zero byte of an entry");
-        expect_entry(i, 7, 0x80, "second zero byte of an entry");
+        expect_entry(i, 7, 1, "reserved byte of an entry");
+        expect_entry(i, 7, 0x80, "reserved byte of an entry");
+        for (unsigned number = 9; number < 256; number++)
+            expect_entry(i, 6, (uint8_t)number, "more than 8 replicates");
         new_book(3, 2);
         reference_store_word(entry(i), 0);
         expect(refusal(9), "trial 0");
@@ -175,7 +177,7 @@ static void new_overfull_book(size_t sheets, size_t len)
 /* All entries are judged before the length is: behind such counts too, a broken entry is check 9's and not check 10's. */
 static void check_overfull_contents(size_t sheets, size_t len)
 {
-    static const uint8_t broken[][2] = {{4, 0}, {5, 1}, {6, 1}, {7, 0x80}}; /* a byte of the entry, and its value */
+    static const uint8_t broken[][2] = {{4, 0}, {5, 1}, {6, 9}, {7, 0x80}}; /* a byte of the entry, and its value */
     size_t last = sheets - 1;
     new_overfull_book(sheets, len);
     expect(refusal(10), "more records than a book can hold");
@@ -199,8 +201,6 @@ static void expect_record(unsigned at, uint8_t value, uint64_t answer, const cha
 
 static void check_records(void)
 {
-    for (unsigned replicate = 0; replicate < 256; replicate++)
-        expect_record(8, (uint8_t)replicate, replicate >= 1 && replicate <= 4 ? 6 : refusal(11), "replicate");
     for (unsigned at = 9; at <= 12; at++) {
         expect_record(at, 0x00, 6, "row or column");
         expect_record(at, 0xff, 6, "row or column");
@@ -218,6 +218,87 @@ static void check_records(void)
     }
 }
 
+/* A book of three sheets of two records, with these numbers of replicates in its entries; every replicate is 1. */
+static void new_book_of_replicates(uint8_t first, uint8_t second, uint8_t third)
+{
+    new_book(3, 2);
+    entry(0)[6] = first;
+    entry(1)[6] = second;
+    entry(2)[6] = third;
+    for (size_t j = 0; j < 6; j++)
+        record(3, j)[8] = 1;
+}
+
+/* One replicate of that book set to a value, and then to 1 again. */
+static void expect_replicate(size_t j, unsigned value, uint64_t answer, const char *what)
+{
+    record(3, j)[8] = (uint8_t)value;
+    expect(answer, what);
+    record(3, j)[8] = 1;
+}
+
+/* Every replicate under every number that an entry may have. */
+static void check_replicates(void)
+{
+    static const uint8_t greatest[] = {4, 1, 2, 3, 4, 5, 6, 7, 8}; /* by the number in the entry */
+    for (unsigned number = 0; number <= 8; number++) {
+        new_book_of_replicates((uint8_t)number, (uint8_t)number, (uint8_t)number);
+        for (unsigned replicate = 0; replicate < 256; replicate++)
+            expect_replicate(5, replicate, replicate >= 1 && replicate <= greatest[number] ? 6 : refusal(11),
+                             "replicate");
+    }
+}
+
+/* A sheet is held to its own number, and not to that of a sheet before or behind it. */
+static void check_sheets_replicates(void)
+{
+    static const uint8_t greatest[] = {1, 8, 4, 8, 1};
+    for (size_t first = 0; first < 3; first++)
+        for (size_t j = 0; j < 6; j++) {
+            const uint8_t *number = greatest + first;
+            unsigned own = number[j / 2];
+            new_book_of_replicates(number[0], number[1], number[2]);
+            expect_replicate(j, own, 6, "the sheet's greatest replicate");
+            expect_replicate(j, own + 1, refusal(11), "one above the sheet's greatest replicate");
+        }
+    new_book_of_replicates(8, 0, 8);
+    expect_replicate(2, 4, 6, "replicate 4 under 0, between sheets of 8");
+    expect_replicate(3, 5, refusal(11), "replicate 5 under 0, between sheets of 8");
+    new_book_of_replicates(4, 9, 4);
+    expect_replicate(0, 0, refusal(9), "replicate 0 before an entry of 9 replicates");
+    expect_replicate(2, 9, refusal(9), "replicate 9 of 9");
+    expect_replicate(2, 10, refusal(9), "replicate 10 of 9");
+}
+
+/* What the library makes of a book that it accepts, by each way. */
+static void change_book(call_kind kind, const uint8_t *from, uint8_t *to)
+{
+    call_input in = {kind, key_bytes, 32, 1, from, book_len, book_len};
+    compare_ways(&in, 6, "0 or 4 replicates");
+    memcpy(to, last_output(), book_len);
+}
+
+/* 0 and 4 mean the same, and the books are different: neither sealing nor opening makes one of the other. */
+static void check_zero_and_four(void)
+{
+    static uint8_t sealed[2][MAX_INPUT], opened[MAX_INPUT];
+    uint8_t *number = entry(1) + 6;
+    size_t differences = 0;
+    new_book_of_replicates(0, 0, 0);
+    record(3, 3)[8] = 4;
+    for (size_t i = 0; i < 2; i++) {
+        *number = i == 0 ? 0 : 4;
+        change_book(CALL_ENCRYPT_BOOK, book, sealed[i]);
+        change_book(CALL_DECRYPT_BOOK, sealed[i], opened);
+        if (memcmp(opened, book, book_len) != 0)
+            fail("a book with %u in byte 6 of an entry does not open as it was", *number);
+    }
+    for (size_t at = 0; at < book_len; at++)
+        differences += sealed[0][at] != sealed[1][at];
+    if (differences != 1 || sealed[0][number - book] != 0 || sealed[1][number - book] != 4)
+        fail("sealed books with 0 and 4 in byte 6 of an entry differ in %zu bytes", differences);
+}
+
 void check_edges(void)
 {
     tried = 0;
@@ -230,6 +311,9 @@ void check_edges(void)
     check_overfull_contents(5, MAX_BOOK_LENGTH);
     check_overfull_contents(64, MAX_BOOK_LENGTH); /* 65,536 records: a sum in 16 bits would be 0 */
     check_records();
+    check_replicates();
+    check_sheets_replicates();
+    check_zero_and_four();
     printf("edges: %u books with a stated answer, each by %d ways\n", tried, WAYS);
 }
 

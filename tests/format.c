@@ -29,7 +29,8 @@ static const field clear_fields[] = {
     {2, 2, "head: number of sheets"},
     {4, 4, "contents entry: trial"},
     {8, 2, "contents entry: record count"},
-    {10, 2, "contents entry: reserved"},
+    {10, 1, "contents entry: number of replicates"},
+    {11, 1, "contents entry: reserved"},
     {12, 16, "contents entry: start block"},
     {28, 4, "record: trial"},
     {32, 4, "record: entry"},
@@ -40,7 +41,7 @@ static const field clear_fields[] = {
 };
 enum {
     CLEAR_FIELDS = sizeof clear_fields / sizeof clear_fields[0],
-    CONTENTS_FIELDS = 7, /* of head and contents, which both books have */
+    CONTENTS_FIELDS = 8, /* of head and contents, which both books have */
     SEALED_FIELDS = CONTENTS_FIELDS + 1
 };
 static const field sealed_record = {28, 16, "sealed record"};

@@ -113,13 +113,20 @@ static book_view view_book(const uint8_t *bytes, size_t len)
     return book;
 }
 
+/* Books of past seasons have 0 in this byte, and replicates up to 4. */
+unsigned reference_replicates(const uint8_t *entry)
+{
+    return entry[6] == 0 ? DEFAULT_REPLICATES : entry[6];
+}
+
 static int entry_holds(const book_view *book, size_t i)
 {
     const uint8_t *entry = entry_of(book, i);
     uint32_t trial = reference_load_word(entry);
     uint32_t before = i == 0 ? 0 : reference_load_word(entry_of(book, i - 1));
     size_t count = count_of(book, i);
-    return trial > before && count >= 1 && count <= MAX_RECORDS && entry[6] == 0 && entry[7] == 0;
+    return trial > before && count >= 1 && count <= MAX_RECORDS &&
+           reference_replicates(entry) <= MAX_REPLICATES && entry[7] == 0;
 }
 
 static int some_entry_broken(const book_view *book)
@@ -144,7 +151,7 @@ static size_t records_there(const book_view *book, size_t sheet, size_t *at)
 static int record_holds(const uint8_t *record, const uint8_t *entry)
 {
     return memcmp(record, entry, 4) == 0 && reference_load_word(record + 4) != 0 && record[8] >= 1 &&
-           record[8] <= MAX_REPLICATE && record[13] == 0 && record[14] == 0 && record[15] == 0;
+           record[8] <= reference_replicates(entry) && record[13] == 0 && record[14] == 0 && record[15] == 0;
 }
 
 /* CBC. */

@@ -47,7 +47,8 @@ enum {
     MAX_BOOK_LENGTH = 65532,
     MAX_SHEETS = 64,
     MAX_RECORDS = 1024,
-    MAX_REPLICATE = 4
+    MAX_REPLICATES = 8,
+    DEFAULT_REPLICATES = 4 /* where an entry has 0 */
 };
 
 typedef enum {
@@ -84,6 +85,10 @@ int call_is_block(call_kind kind);
 /* The bytes of output that a call asks for where its other lengths are right;
  * 0 where the key length is not permitted and decides it. */
 size_t reference_output_length(const call_input *in);
+
+/* The number of replicates that an entry gives its sheet, within the limit or
+ * not. */
+unsigned reference_replicates(const uint8_t *entry);
 
 /* The verdict on a call. At entry out holds the out_len bytes that the lent
  * output holds before the call, at exit those that it must hold afterwards. */

@@ -31,7 +31,7 @@ test_leftovers() {
         nothing_left "the clear record" 0 $record $verb
         nothing_left "the clear record's numbers" 0 $numbers $verb
     done
-    for verb in "pack plan.csv x" "unpack --starts y clear x" "unpack clear" "seal --key key128 plan.csv x" "check plan.csv" \
+    for verb in "pack plan.csv x" "unpack --trials y clear x" "unpack clear" "seal --key key128 plan.csv x" "check plan.csv" \
         "open --key key128 sealed128 x.csv"; do
         nothing_left "the plan's line" 0 $line_text $verb
         nothing_left "the clear record" 0 $record $verb

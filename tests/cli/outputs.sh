@@ -3,8 +3,8 @@
 test_existing_outputs() {
     cp precious old
     expect 2 "old exists" seal --key key128 clear old
-    expect 2 "old exists" unpack --starts new clear old
-    expect 2 "old exists" unpack --starts old clear new
+    expect 2 "old exists" unpack --trials new clear old
+    expect 2 "old exists" unpack --trials old clear new
     holds "no half of an unpacked plan" [ ! -e new ]
     expect 1 "[check 11]" open --force --key key192 sealed128 old
     same old precious
@@ -34,25 +34,25 @@ test_existing_outputs() {
     for name in missing/x missing/ precious/x ''; do
         expect 2 "cannot make $name: " seal --key key128 clear "$name"
     done
-    expect_nothing both 2 "cannot make ./both: File exists" unpack --starts ./both clear both
-    expect_nothing both 2 "cannot make ./both: File exists" unpack --force --starts ./both clear both
+    expect_nothing both 2 "cannot make ./both: File exists" unpack --trials ./both clear both
+    expect_nothing both 2 "cannot make ./both: File exists" unpack --force --trials ./both clear both
     cp precious both
-    expect 2 "both and ./both are the same output" unpack --force --starts ./both clear both
+    expect 2 "both and ./both are the same output" unpack --force --trials ./both clear both
     same both precious
-    expect_nothing x 2 "cannot make missing/y" unpack --starts missing/y clear x
+    expect_nothing x 2 "cannot make missing/y" unpack --trials missing/y clear x
     rm -f both link old kept
     # a failed --force leaves both files as they were, or the one that it did not come to
     cp precious a
     cp precious b
-    with_fault no-rename:1 unpack --force --starts b clear a
+    with_fault no-rename:1 unpack --force --trials b clear a
     judge "the first of two files cannot be replaced" 2 "cannot make a: Input/output error" $?
     same a precious
     same b precious
-    with_fault no-rename:2 unpack --force --starts b clear a
+    with_fault no-rename:2 unpack --force --trials b clear a
     judge "the second of two files cannot be replaced" 2 "cannot make b: Input/output error" $?
     same a plan.csv
     same b precious
-    with_fault no-rename:1 unpack --force --starts a clear y
+    with_fault no-rename:1 unpack --force --trials a clear y
     judge "the file that exists cannot be replaced" 2 "cannot make a: Input/output error" $?
     same a plan.csv
     holds "the other is not made" [ ! -e y ]
@@ -102,16 +102,16 @@ test_no_links() {
         judge "$fault" 0 "" $?
         same x sealed128
         rm -f x
-        with_fault $fault unpack --starts y clear x
+        with_fault $fault unpack --trials y clear x
         judge "$fault, two outputs" 0 "" $?
         same x plan.csv
-        same y starts.csv
+        same y trials.csv
         rm -f x y
         with_fault $fault,race:x seal --key key128 clear x
         judge "$fault, the output appears meanwhile" 2 "cannot make x: File exists" $?
         same x empty
         rm -f x
-        with_fault $fault,late-race:x unpack --starts x clear y
+        with_fault $fault,late-race:x unpack --trials x clear y
         judge "$fault, one of two outputs appears meanwhile" 2 "cannot make x: File exists" $?
         same x empty
         holds "$fault: the other is not made" [ ! -e y ]
@@ -134,7 +134,7 @@ test_no_links() {
 
 test_full_disk() {
     for line in "seal --key key128 clear" "open --key key128 sealed128" "show clear" "labels sealed128" \
-        "pack --starts starts.csv plan.csv" "unpack --starts x clear" "unpack clear" "find --key key128 sealed128 41 0" \
+        "pack --trials trials.csv plan.csv" "unpack --trials x clear" "unpack clear" "find --key key128 sealed128 41 0" \
         "check plan.csv" "keygen -" "--help" "help seal" "--version"; do
         "$planbook" $line >/dev/full 2>err
         judge "planbook $line, full disk" 2 "cannot write standard output: No space left on device" $?
@@ -148,7 +148,7 @@ test_full_disk() {
     judge "file size limit" 2 "cannot write x: File too large" 2
     with_fault full seal --key key128 clear x
     judge "disk full in the middle of a file" 2 "cannot write x: No space left on device" $?
-    with_fault full unpack --starts y clear x
+    with_fault full unpack --trials y clear x
     judge "disk full in the middle of two files" 2 "cannot write x: No space left on device" $?
     holds "no part of a file" [ ! -e x ]
     holds "no part of a second file" [ ! -e y ]
@@ -156,7 +156,7 @@ test_full_disk() {
 
 test_signals() {
     for signal in 1 2 3 13 14 15; do
-        with_fault signal:$signal unpack --starts folder/y clear x
+        with_fault signal:$signal unpack --trials folder/y clear x
         status=$?
         : >err # the shell writes a word about the signal there
         judge "ended by signal $signal" $((128 + signal)) "" $status
@@ -174,7 +174,7 @@ test_signals() {
     same x empty
     rm -f x
     for other in x y; do # either of two
-        with_fault late-race:$other unpack --starts x clear y
+        with_fault late-race:$other unpack --trials x clear y
         judge "one of two outputs appears meanwhile" 2 "cannot make $other: File exists" $?
         same $other empty
         rm -f $other

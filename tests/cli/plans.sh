@@ -9,7 +9,7 @@ reads_as_sample() {
     shift
     # shellcheck disable=SC2059
     printf "$@" >in
-    expect 0 "" pack --force --starts starts.csv - book
+    expect 0 "" pack --force --trials trials.csv - book
     holds "$what" cmp -s book clear
 }
 
@@ -26,8 +26,8 @@ test_spreadsheets() {
     reads_as_sample "an empty line at the end" '%s\n%s\n\n' $header $good
     reads_as_sample "two empty lines at the end" '%s\n%s\n\n\n' $header $good
     reads_as_sample "empty rows at the end" '%s\n%s\n\n\r\n,,,,\n,\n' $header $good
-    printf 'Start_Block;TRIAL\r\n"%s";41\r\n\r\n' "$(echo $start | tr a-f A-F)" >odd-starts.csv
-    expect 0 "" pack --force --starts odd-starts.csv plan.csv book
+    printf 'Start_Block;TRIAL\r\n"%s";41\r\n\r\n' "$(echo $start | tr a-f A-F)" >odd-trials.csv
+    expect 0 "" pack --force --trials odd-trials.csv plan.csv book
     same book clear
     echo $header >in
     expect_exactly 0 "planbook: warning: standard input has a header and no plots" pack --force - book
@@ -41,7 +41,7 @@ lines, and a ""quote""",41,7,,2,12,3,
 END
     expect_exactly 0 'planbook: warning: standard input, line 1: the column "remark" is not used
 planbook: warning: standard input, line 1: the column "a "quoted" name" is not used
-planbook: warning: standard input, line 1: the column "" is not used' pack --force --starts starts.csv - book
+planbook: warning: standard input, line 1: the column "" is not used' pack --force --trials trials.csv - book
     same book clear
     rm -f book
 }
@@ -52,7 +52,7 @@ bad_plan() {
     sentence=$2
     shift 2
     { echo $header; [ $# -eq 0 ] || printf '%s\n' "$@"; } >damaged.csv
-    expect_nothing x "$status" "$sentence" pack --starts starts.csv damaged.csv x
+    expect_nothing x "$status" "$sentence" pack --trials trials.csv damaged.csv x
     expect_nothing x "$status" "$sentence" seal --key key128 damaged.csv x
     expect "$status" "$sentence" check damaged.csv
     same out empty
@@ -61,16 +61,8 @@ bad_plan() {
 # bad_line STATUS MESSAGE LINE: the same for one line, whose message is the only one; the line's number is 2.
 bad_line() {
     { echo $header; printf '%s\n' "$3"; } >damaged.csv
-    expect_exactly "$1" "planbook: damaged.csv, line 2: $2" pack --starts starts.csv damaged.csv x
+    expect_exactly "$1" "planbook: damaged.csv, line 2: $2" pack --trials trials.csv damaged.csv x
     holds "nothing is made of $3" [ ! -e x ]
-}
-
-# bad_starts SENTENCE LINE..: likewise the file of start blocks.
-bad_starts() {
-    sentence=$1
-    shift
-    { echo trial,start_block; [ $# -eq 0 ] || printf '%s\n' "$@"; } >damaged.csv
-    expect_nothing x 2 "$sentence" pack --starts damaged.csv plan.csv x
 }
 
 test_bad_lines() {
@@ -95,8 +87,8 @@ test_bad_lines() {
     bad_line 2 'the entry "\x1b[31m7" is not a number from 0 to 4294967295' "$(printf '41,\033[31m7,2,12,3')"
     bad_line 2 'the entry "süß" is not a number from 0 to 4294967295' 41,süß,2,12,3
     bad_line 1 "entry 0, but entries begin at 1 [check 11]" 41,0,2,12,3
-    bad_line 1 "replicate 0, but a replicate is 1 to 4 [check 11]" 41,7,0,12,3
-    bad_line 1 "replicate 5, but a replicate is 1 to 4 [check 11]" 41,7,5,12,3
+    bad_line 1 "replicate 0, but replicates begin at 1 [check 11]" 41,7,0,12,3
+    bad_line 1 "replicate 5, but trial 41 has 4, the default [check 11]" 41,7,5,12,3
     bad_line 1 "trial 0, but trials begin at 1 [check 9]" 0,7,2,12,3
     bad_plan 2 "damaged.csv, line 3: the line is empty" $good '' 41,7,2,12,4
     bad_plan 2 "damaged.csv, line 3: the line is empty" $good ,,,, '' 41,7,2,12,4
@@ -104,7 +96,7 @@ test_bad_lines() {
     expect_nothing x 2 'damaged.csv, line 2: the column "3\x00" is not a number' pack damaged.csv x
     # every bad line is told, whatever is wrong with it, and the status is that of the form
     printf '%s\n' $header 41,7,5,12,9 41,7,2,12 $good x,7,2,12,4 41,0,2,12,5 >damaged.csv
-    expect_exactly 2 'planbook: damaged.csv, line 2: replicate 5, but a replicate is 1 to 4 [check 11]
+    expect_exactly 2 'planbook: damaged.csv, line 2: replicate 5, but trial 41 has 4, the default [check 11]
 planbook: damaged.csv, line 3: the line has 4 fields instead of 5
 planbook: damaged.csv, line 5: the trial "x" is not a number from 0 to 4294967295
 planbook: damaged.csv, line 6: entry 0, but entries begin at 1 [check 11]' check damaged.csv
@@ -123,7 +115,7 @@ planbook: damaged.csv, line 6: entry 0, but entries begin at 1 [check 11]' check
 
 test_headers() {
     bad='there is no column "entry" in the header, which begins with "trial"; the columns are trial,entry,replicate,row,column'
-    expect_exactly 2 "planbook: starts.csv, line 1: $bad" pack starts.csv x
+    expect_exactly 2 "planbook: trials.csv, line 1: $bad" pack trials.csv x
     printf '41,7,2,12,3\n' >damaged.csv
     expect_nothing x 2 'damaged.csv, line 1: there is no column "trial" in the header, which begins with "41"' pack damaged.csv x
     printf '%s,row\n%s,1\n' $header $good >damaged.csv
@@ -140,11 +132,11 @@ test_headers() {
     expect_nothing x 2 "empty, line 1: the file is empty" pack empty x
     expect_nothing x 2 "clear is a clear book, and a plan (CSV) is needed here" pack clear x
     expect_nothing x 2 "sealed128 is a sealed book, and a plan (CSV) is needed here" pack sealed128 x
-    expect_nothing x 2 "clear is a clear book" pack --starts clear plan.csv x
+    expect_nothing x 2 "clear is a clear book" pack --trials clear plan.csv x
     expect_nothing x 2 "/dev/zero: too long for a plan, above 1,048,576 bytes" pack /dev/zero x
     yes 41,7,2,12,3 | head -c 1048577 >long.csv
     expect_nothing x 2 "long.csv: too long for a plan, above 1,048,576 bytes" seal --key key128 long.csv x
-    expect_nothing x 2 "cannot open missing" pack --starts missing plan.csv x
+    expect_nothing x 2 "cannot open missing" pack --trials missing plan.csv x
     rm -f long.csv
 }
 
@@ -183,38 +175,5 @@ test_limits() {
     { echo $header; yes $good | head -n 30; } >damaged.csv
     expect 0 "planbook: warning: and 9 more warnings" check damaged.csv
     holds "twenty warnings and a word about the rest" [ "$(wc -l <err)" -eq 21 ]
-    rm -f x
-}
-
-test_start_blocks() {
-    bad_plan_starts() { printf '%s\n' $header "$@" >damaged.csv; }
-    bad_plan_starts $good 42,7,2,12,3 40,7,2,12,3
-    expect_exactly 2 "planbook: damaged.csv, line 4: trial 40 has no start block in starts.csv
-planbook: damaged.csv, line 3: trial 42 has no start block in starts.csv" pack --starts starts.csv damaged.csv x
-    bad_plan_starts
-    expect_nothing x 2 "starts.csv, line 2: trial 41 has no line in damaged.csv" pack --starts starts.csv damaged.csv x
-    bad_starts "damaged.csv, line 3: trial 41 has a start block in line 2 already" 41,$start 41,$cipher128
-    bad_starts "damaged.csv, line 2: trial 40 has no line in plan.csv" 40,$start 41,$start
-    bad_starts "damaged.csv, line 3: trial 43 has no line in plan.csv" 41,$start 43,$start
-    bad_starts "plan.csv, line 2: trial 41 has no start block in damaged.csv"
-    bad_starts "damaged.csv, line 2: the start block \"${start}0\" is not 32 hexadecimal digits" 41,${start}0
-    bad_starts "damaged.csv, line 2: the start block \"x${start#0}\" is not 32 hexadecimal digits" 41,x${start#0}
-    bad_starts 'damaged.csv, line 2: the start block "4g' 41,4g${start#00}
-    bad_starts 'damaged.csv, line 2: the start block "g4' 41,g4${start#00}
-    bad_starts "damaged.csv, line 2: the line has 1 fields instead of 2" 41
-    bad_starts 'damaged.csv, line 2: the trial "x" is not a number' x,$start
-    zeros=00000000000000000000000000000000
-    bad_starts "damaged.csv: the start block of trial 41 is all zeros; without --starts, good ones are drawn" 41,$zeros
-    printf '%s\n' $header $good 42,7,2,12,3 43,7,2,12,3 >three.csv
-    printf 'trial,start_block\n41,%s\n42,%s\n43,%s\n' $start $cipher128 $start >damaged.csv
-    expect_exactly 2 "planbook: damaged.csv: trials 41 and 43 have the same start block; without --starts, good ones are drawn" \
-        pack --starts damaged.csv three.csv x
-    expect 2 "trials 41 and 43 have the same start block" check --starts damaged.csv three.csv
-    # a clear book that another program made is sealed, with a warning
-    unhex 01000002 0000002900010000$zeros 0000002a00010000$zeros $record 0000002a0000000702000c0003000000 >weak
-    expect_exactly 0 "planbook: warning: weak: the start block of trial 41 is all zeros; pack draws good ones
-planbook: warning: weak: the start block of trial 42 is all zeros; pack draws good ones" seal --key key128 weak x
-    unhex 01000002 0000002900010000$start 0000002a00010000$start $record 0000002a0000000702000c0003000000 >weak
-    expect_exactly 0 "planbook: warning: weak: trials 41 and 42 have the same start block; pack draws good ones" seal --force --key key128 weak x
     rm -f x
 }

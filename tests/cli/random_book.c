@@ -2,9 +2,9 @@
  * Writes a random clear book and, from the same numbers, all that the command must make of it, into the current directory:
  *
  *   book                        the clear book
- *   plan.csv starts.csv         what unpack must give
- *   mixed.csv mixed-starts.csv  the same lines as another spreadsheet might write them, trials mixed and start blocks
- *                               reversed: pack must give the book all the same
+ *   plan.csv trials.csv         what unpack must give
+ *   mixed.csv mixed-trials.csv  the same lines as another spreadsheet might write them, the plan's mixed and those of the
+ *                               trials reversed: pack must give the book all the same
  *   key sealed                  a random key, and the book sealed by the reference in tests/
  *   show.txt show.json          what show must print of the clear book
  *   head.txt head.json          and of the sealed one
@@ -30,6 +30,7 @@ struct plot {
 static struct {
     uint32_t trial;
     unsigned count;
+    unsigned replicates; /* as it stands in the book */
     unsigned char start[16];
     struct plot plots[MAX_COUNT];
 } sheets[MAX_SHEETS];
@@ -64,6 +65,12 @@ static uint32_t number(uint32_t least, uint32_t most)
     }
 }
 
+/* The number that holds. */
+static unsigned replicates_of(unsigned s)
+{
+    return sheets[s].replicates == 0 ? 4 : sheets[s].replicates;
+}
+
 static void draw_book(void)
 {
     unsigned room = MAX_BOOK - 4;
@@ -77,11 +84,12 @@ static void draw_book(void)
         trial = number(trial + 1, left == 0 ? UINT32_MAX : trial + (UINT32_MAX - trial - left) / 2 + 1);
         sheets[sheet_count].trial = trial;
         sheets[sheet_count].count = count;
+        sheets[sheet_count].replicates = number(0, 8);
         for (unsigned i = 0; i < 16; i++)
             sheets[sheet_count].start[i] = (unsigned char)draw();
         for (unsigned i = 0; i < count; i++)
             sheets[sheet_count].plots[i] =
-                (struct plot){number(1, UINT32_MAX), number(1, 4), number(0, 65535), number(0, 65535)};
+                (struct plot){number(1, UINT32_MAX), number(1, replicates_of(sheet_count)), number(0, 65535), number(0, 65535)};
     }
 }
 
@@ -121,7 +129,8 @@ static void write_book(void)
     for (unsigned s = 0; s < sheet_count; s++) {
         put(sheets[s].trial, 4);
         put(sheets[s].count, 2);
-        put(0, 2);
+        put(sheets[s].replicates, 1);
+        put(0, 1);
         memcpy(clear + book_len, sheets[s].start, 16);
         book_len += 16;
     }
@@ -165,25 +174,20 @@ static void write_hex(FILE *to, const unsigned char *at)
         fprintf(to, "%02x", at[i]);
 }
 
-static void write_start(FILE *starts, unsigned s)
-{
-    fprintf(starts, "%" PRIu32 ",", sheets[s].trial);
-    write_hex(starts, sheets[s].start);
-    fputc('\n', starts);
-}
-
 static void write_csv(void)
 {
-    FILE *plan = create("plan.csv"), *starts = create("starts.csv");
+    FILE *plan = create("plan.csv"), *trials = create("trials.csv");
     fputs("trial,entry,replicate,row,column\n", plan);
-    fputs("trial,start_block\n", starts);
+    fputs("trial,start_block,replicates\n", trials);
     for (unsigned s = 0; s < sheet_count; s++) {
-        write_start(starts, s);
+        fprintf(trials, "%" PRIu32 ",", sheets[s].trial);
+        write_hex(trials, sheets[s].start);
+        fprintf(trials, ",%u\n", sheets[s].replicates);
         for (unsigned i = 0; i < sheets[s].count; i++)
             write_line(plan, s, i);
     }
     finish(plan);
-    finish(starts);
+    finish(trials);
 }
 
 /* Another spreadsheet's ways: separator, quotes, order of the columns, a column more, capitals, line ends. */
@@ -228,25 +232,34 @@ static void write_mixed_line(FILE *to, unsigned s, unsigned i)
     write_mixed_fields(to, texts);
 }
 
+static void write_mixed_trials(void)
+{
+    FILE *trials = create("mixed-trials.csv");
+    fprintf(trials, "Replicates%cSTART_BLOCK%c\"Trial\"%s", separator, separator, line_end);
+    for (unsigned s = sheet_count; s-- > 0;) {
+        fprintf(trials, "0%u%c", sheets[s].replicates, separator);
+        write_hex(trials, sheets[s].start);
+        fprintf(trials, "%c%" PRIu32 "%s", separator, sheets[s].trial, line_end);
+    }
+    finish(trials);
+}
+
 static void write_mixed_csv(void)
 {
-    FILE *plan = create("mixed.csv"), *starts = create("mixed-starts.csv");
+    FILE *plan = create("mixed.csv");
     char names[6][64] = {"Trial", "entry", "REPLICATE", "Row", "cOLUMN", "remarks"};
     separator = ",;\t"[below(3)];
     line_end = below(2) == 0 ? "\r\n" : "\n";
     shuffle_columns();
     fputs(below(2) == 0 ? "\xef\xbb\xbf" : "", plan);
     write_mixed_fields(plan, names);
-    fputs("trial,start_block\n", starts);
-    for (unsigned s = sheet_count; s-- > 0;)
-        write_start(starts, s);
     for (unsigned i = 0; i < MAX_COUNT; i++)
         for (unsigned s = sheet_count; s-- > 0;)
             if (i < sheets[s].count)
                 write_mixed_line(plan, s, i);
     fputs(below(2) == 0 ? line_end : "", plan);
     finish(plan);
-    finish(starts);
+    write_mixed_trials();
 }
 
 /* Tables. Numbers stand right under their names. */
@@ -258,9 +271,10 @@ static void write_head(FILE *to, const char *kind)
         records += sheets[s].count;
     fprintf(to, "%s plan book: sheets %u, records %u, bytes %zu\n", kind, sheet_count, records, book_len);
     if (sheet_count > 0)
-        fputs("\n     TRIAL RECORDS  START BLOCK\n", to);
+        fputs("\n     TRIAL RECORDS REPLICATES            START BLOCK\n", to);
     for (unsigned s = 0; s < sheet_count; s++) {
-        fprintf(to, "%10" PRIu32 "%8u  ", sheets[s].trial, sheets[s].count);
+        fprintf(to, "%10" PRIu32 "%8u%11u%s", sheets[s].trial, sheets[s].count, replicates_of(s),
+                sheets[s].replicates == 0 ? " (default)  " : "            ");
         write_hex(to, sheets[s].start);
         fputc('\n', to);
     }
@@ -293,7 +307,9 @@ static void write_json_head(FILE *to, const char *kind)
 {
     fprintf(to, "{\"kind\": \"%s\", \"bytes\": %zu,\n \"sheets\": [", kind, book_len);
     for (unsigned s = 0; s < sheet_count; s++) {
-        fprintf(to, "%s\n  {\"trial\": %" PRIu32 ", \"count\": %u, \"start_block\": \"", s > 0 ? "," : "", sheets[s].trial, sheets[s].count);
+        fprintf(to, "%s\n  {\"trial\": %" PRIu32 ", \"count\": %u", s > 0 ? "," : "", sheets[s].trial, sheets[s].count);
+        fprintf(to, ", \"replicates\": %u, \"replicates_by_default\": %s, \"start_block\": \"", replicates_of(s),
+                sheets[s].replicates == 0 ? "true" : "false");
         write_hex(to, sheets[s].start);
         fputs("\"}", to);
     }

@@ -16,8 +16,8 @@ test_usage() {
     expect_exactly 2 "planbook: --key and --key-hex are both given, but a key is read from one file" show --key key128 --key-hex hex128 sealed128 x
     expect_nothing x 2 "y is one word too many: seal takes [PLAN | CLEAR [SEALED]]" seal --key key128 clear x y
     expect_nothing x 2 "only one of the inputs" seal --key - - x
-    expect_nothing x 2 "only one of the inputs" pack --starts - - x
-    expect_nothing x 2 "cannot both go to standard output" unpack --starts - clear
+    expect_nothing x 2 "only one of the inputs" pack --trials - - x
+    expect_nothing x 2 "cannot both go to standard output" unpack --trials - clear
     for way in two -1 +2 2x '' ' 2' 18446744073709551616; do
         expect_nothing x 2 "--way takes a number: $way" seal --key key128 --way "$way" clear x
     done
@@ -48,8 +48,8 @@ test_help() {
         done
     done
     expect 0 "" seal --help
-    holds "the help of seal has its options" [ "$(grep -cE '^  --(key|key-hex|way|force) ' out)" -eq 4 ]
-    holds "and no others" [ "$(grep -cE '^  --' out)" -eq 4 ]
+    holds "the help of seal has its options" [ "$(grep -cE '^  --(key|key-hex|way|trials|force) ' out)" -eq 5 ]
+    holds "and no others" [ "$(grep -cE '^  --' out)" -eq 5 ]
     expect 2 "close is not a verb" help close
     expect 2 "seal is one word too many after --help" --help seal
     expect 2 "x is one word too many after seal" help seal x
@@ -133,9 +133,9 @@ bad_clear() {
     unhex "$@" >damaged
     expect_exactly 1 "$message" seal --key key128 damaged x
     expect_exactly 1 "$message" show damaged x
-    expect_exactly 1 "$message" unpack --starts y damaged x
+    expect_exactly 1 "$message" unpack --trials y damaged x
     holds "no plan of a refused book" [ ! -e x ]
-    holds "no start blocks of a refused book" [ ! -e y ]
+    holds "no trials of a refused book" [ ! -e y ]
 }
 
 # bad_sealed CHECK SENTENCE HEX..: a sealed book that opening, labels and find refuse.
@@ -160,10 +160,16 @@ test_books() {
     bad_clear 9 ": trial 41 has 1,025 plots, and a trial has 1 to 1,024" 01000001 0000002904010000$start
     bad_clear 9 ", sheet 1: trial 0, but trials begin at 1" 01000001 0000000000010000$start $record
     bad_clear 9 ", sheet 2: trial 41 comes after trial 41, but trials must rise" 01000002 $entry $entry $record $record
-    bad_clear 9 ": the two reserved bytes of trial 41 in the contents are not zero" 01000001 0000002900010001$start $record
+    bad_clear 9 ": trial 41 has 9 replicates, and a trial has at most 8" 01000001 0000002900010900$start $record
+    bad_clear 9 ": trial 41 has 255 replicates, and a trial has at most 8" 01000001 000000290001ff00$start $record
+    bad_clear 9 ": the reserved byte of trial 41 in the contents is not zero" 01000001 0000002900010001$start $record
     bad_clear 10 " has 28 bytes, but its contents say 44: its end is missing" 01000001 $entry
     bad_clear 10 " has 45 bytes, but its contents say 44: something was added" 01000001 $entry $record 00
-    bad_clear 11 ", trial 41, place 0: replicate 5, but a replicate is 1 to 4" 01000001 $entry 000000290000000705000c0003000000
+    bad_clear 11 ", trial 41, place 0: replicate 5, but trial 41 has 4, the default" 01000001 $entry 000000290000000705000c0003000000
+    bad_clear 11 ", trial 41, place 0: replicate 5, but trial 41 has 4" 01000001 0000002900010400$start 000000290000000705000c0003000000
+    bad_clear 11 ", trial 41, place 0: replicate 2, but trial 41 has 1" 01000001 0000002900010100$start $record
+    bad_clear 11 ", trial 41, place 0: replicate 9, but trial 41 has 8" 01000001 0000002900010800$start 000000290000000709000c0003000000
+    bad_clear 11 ", trial 41, place 0: replicate 0, but replicates begin at 1" 01000001 $entry 000000290000000700000c0003000000
     bad_clear 11 ", trial 41, place 1: entry 0, but entries begin at 1" 01000001 0000002900020000$start $record 000000290000000001000c0003000000
     bad_clear 11 ", trial 41, place 0: a record of trial 42 in the sheet of trial 41" 01000001 $entry 0000002a0000000702000c0003000000
     bad_clear 11 ", trial 41, place 0: the last three bytes of the record are not zero" 01000001 $entry 000000290000000702000c0003000001
@@ -174,6 +180,8 @@ test_books() {
     bad_sealed 7 " says that it has 65 trials, and a plan book has at most 64" 02000041
     bad_sealed 8 " has 8 bytes, but the contents of its 1 trials need 28: its end is missing" 02000001 00000029
     bad_sealed 9 ": trial 41 has 1,025 plots, and a trial has 1 to 1,024" 02000001 0000002904010000$start
+    bad_sealed 9 ": trial 41 has 9 replicates, and a trial has at most 8" 02000001 0000002900010900$start $cipher128
+    bad_sealed 9 ": the reserved byte of trial 41 in the contents is not zero" 02000001 0000002900010001$start $cipher128
     bad_sealed 10 " has 32 bytes, but its contents say 44: its end is missing" 02000001 $entry de2bf2fd
     bad_sealed 10 " has 45 bytes, but its contents say 44: something was added" 02000001 $entry $cipher128 00
     expect_exactly 1 "planbook: sealed128 is sealed already, and a clear book is needed here [check 6]" seal --key key128 sealed128 x

@@ -55,23 +55,25 @@ test_one_step() {
     expect 0 "" open --csv --key key192 t
     same out plan.csv
     holds "each sealing draws new start blocks" [ "$("$planbook" show s | sed -n 4p)" != "$("$planbook" show t | sed -n 4p)" ]
-    expect 0 "" seal --key key192 "$here/examples/plan.csv" u
-    expect 0 "" open --csv --key key192 u
-    same out "$here/examples/plan.csv"
+    expect 0 "" seal --key key192 --trials "$here/examples/trials.csv" "$here/examples/plan.csv" u
+    expect 0 "" open --key key192 --trials t.csv u back.csv --force
+    same back.csv "$here/examples/plan.csv"
+    cut -d , -f 1,3 t.csv >got
+    same got "$here/examples/trials.csv"
     mkdir "a folder"
     cp plan.csv "a folder/the plan.csv"
     (cd "a folder" && "$planbook" seal --key ../key192 "the plan.csv" "../a folder/the book" && "$planbook" open --csv --key ../key192 "the book") >out 2>err
     judge "names with spaces, from another folder" 0 "" $?
     same out plan.csv
-    rm -rf s t u c back.csv back.CSV "a folder"
+    rm -rf s t u c t.csv back.csv back.CSV "a folder"
 }
 
 test_show_and_labels() {
     cat >table <<'END'
 clear plan book: sheets 1, records 1, bytes 44
 
-     TRIAL RECORDS  START BLOCK
-        41       1  0001022a040506000a09060b0f0d0e0f
+     TRIAL RECORDS REPLICATES            START BLOCK
+        41       1          4 (default)  0001022a040506000a09060b0f0d0e0f
 
      TRIAL PLACE      ENTRY REPLICATE   ROW COLUMN
         41     0          7         2    12      3
@@ -110,7 +112,7 @@ test_json() {
     cat >wanted <<END
 {"kind": "clear", "bytes": 44,
  "sheets": [
-  {"trial": 41, "count": 1, "start_block": "$start"}
+  {"trial": 41, "count": 1, "replicates": 4, "replicates_by_default": true, "start_block": "$start"}
  ],
  "records": [
   {"trial": 41, "place": 0, "entry": 7, "replicate": 2, "row": 12, "column": 3}
@@ -215,10 +217,8 @@ test_check() {
     echo "trials 1, plots 1, bytes of the book 44" >wanted
     same out wanted
     cp "$here/examples/plan.csv" in
-    expect 0 "" check
-    echo "trials 3, plots 21, bytes of the book 412" >wanted
-    same out wanted
-    expect 0 "" check --starts "$here/examples/starts.csv" "$here/examples/plan.csv"
+    expect 0 "" check --trials "$here/examples/trials.csv"
+    echo "trials 4, plots 37, bytes of the book 692" >wanted
     same out wanted
     : >before; : >after
     find . | sort >before
@@ -228,29 +228,29 @@ test_check() {
 }
 
 test_pack_and_unpack() {
-    expect 0 "" pack --starts starts.csv plan.csv book
+    expect 0 "" pack --trials trials.csv plan.csv book
     same book clear
     mode_is 600 book
-    expect 0 "" unpack --starts s.csv book p.csv
+    expect 0 "" unpack --trials s.csv book p.csv
     same p.csv plan.csv
-    same s.csv starts.csv
+    same s.csv trials.csv
     mode_is 600 p.csv
     mode_is 600 s.csv
-    expect 0 "" unpack --starts - book p2.csv
-    same out starts.csv
+    expect 0 "" unpack --trials - book p2.csv
+    same out trials.csv
     same p2.csv plan.csv
     expect 0 "" unpack book
     same out plan.csv
-    cp starts.csv in
-    expect 0 "" pack --force --starts - plan.csv book
+    cp trials.csv in
+    expect 0 "" pack --force --trials - plan.csv book
     same book clear
     rm -f book p.csv p2.csv s.csv
     # fresh start blocks are what the system gave, trial by trial
     printf 'trial,entry,replicate,row,column\n43,1,1,1,1\n41,7,2,12,3\n' >two.csv
-    printf 'trial,start_block\n41,0102030405060708090a0b0c0d0e0f10\n43,1112131415161718191a1b1c1d1e1f20\n' >wanted
+    printf 'trial,start_block,replicates\n41,0102030405060708090a0b0c0d0e0f10,0\n43,1112131415161718191a1b1c1d1e1f20,0\n' >wanted
     with_fault count pack two.csv book
     judge "pack draws start blocks" 0 "" $?
-    expect 0 "" unpack --starts s.csv book p.csv
+    expect 0 "" unpack --trials s.csv book p.csv
     same s.csv wanted
     with_fault no-random pack two.csv x
     judge "pack without random bytes" 2 "the system gives no random bytes" $?
@@ -263,9 +263,9 @@ test_pack_and_unpack() {
 
 # All that is made of a random book is what tests/cli/random_book.c has made of it.
 random_book() {
-    "$planbook" unpack --starts s.csv book p.csv && cmp p.csv plan.csv && cmp s.csv starts.csv &&
-        "$planbook" pack --starts s.csv p.csv again 2>/dev/null && cmp again book &&
-        "$planbook" pack --starts mixed-starts.csv mixed.csv mixed 2>/dev/null && cmp mixed book &&
+    "$planbook" unpack --trials s.csv book p.csv && cmp p.csv plan.csv && cmp s.csv trials.csv &&
+        "$planbook" pack --trials s.csv p.csv again 2>/dev/null && cmp again book &&
+        "$planbook" pack --trials mixed-trials.csv mixed.csv mixed 2>/dev/null && cmp mixed book &&
         "$planbook" seal --key key --way 1 book s && cmp s sealed &&
         "$planbook" open --key key sealed opened && cmp opened book &&
         "$planbook" show book >out && cmp out show.txt &&
@@ -275,7 +275,8 @@ random_book() {
         "$planbook" show --key key sealed >out && cmp out show.txt &&
         "$planbook" labels sealed >out && cmp out labels.txt &&
         "$planbook" labels --json sealed >out && cmp out labels.json &&
-        "$planbook" open --csv --key key sealed >out && cmp out plan.csv || return 1
+        "$planbook" open --csv --key key sealed >out && cmp out plan.csv &&
+        "$planbook" open --key key --trials t.csv sealed q.csv && cmp q.csv plan.csv && cmp t.csv trials.csv || return 1
     while read -r label trial place rest; do
         for asked in "$label" "$trial $place"; do
             # shellcheck disable=SC2086
@@ -303,7 +304,7 @@ test_memory() {
         skip "the command under valgrind: not installed"
         return
     fi
-    for line in "open --key-hex hex192 sealed192" "pack --starts starts.csv plan.csv"; do
+    for line in "open --key-hex hex192 sealed192" "pack --trials trials.csv plan.csv"; do
         valgrind -q --leak-check=full --error-exitcode=9 "$plain" $line >out 2>err
         judge "valgrind planbook $line" 0 "" $?
         same out clear

@@ -10,7 +10,7 @@ use lib.ListN.{length, getD, take, drop, length-drop, take-append-drop}
 use lib.Seq.{take-append-le, drop-append-le, length-take-le}
 use Rattle.clefia_spec.specs.Words.{fromDigits, toDigits, digitsOf, numbersOf, bytesOf, wordsOf, Below}
 use Rattle.clefia_laws.specs.DigitLaws.{from-to, digits-numbers, below-take}
-use Rattle.planbook_spec.specs.Book.{number, trial, recordHolds}
+use Rattle.planbook_spec.specs.Book.{number, trial, replicates, recordHolds}
 
 -- Numbers that are written at the front of a row, whatever follows them.
 numbers-append : (b k n : ℕ) (xs ys : List ℕ) → length xs ≡ n * k → numbersOf b k n (xs ++ ys) ≡ numbersOf b k n xs
@@ -39,16 +39,16 @@ byte-high x h = mod-eq-of-lt (omega arith)
 
 pub record-words : (e : List ℕ) (a b c d : ℕ) → a < 2 ^ 32 → b < 2 ^ 32 → c < 2 ^ 32
     → recordHolds e (bytesOf (a ∷ b ∷ c ∷ d ∷ []))
-    ≡ (eqb a (trial e) && leb 1 b && leb 1 (c / 16777216) && leb (c / 16777216) 4 && eqb (d % 16777216) 0)
+    ≡ (eqb a (trial e) && leb 1 b && leb 1 (c / 16777216) && leb (c / 16777216) (replicates e) && eqb (d % 16777216) 0)
 unfolding recordHolds number digitsOf toDigits
 record-words e a b c d ha hb hc = rw (word-back a ha, word-back b hb, byte-high c hc, from-to (lit< tt) 3 d)
 
-pub record-row : (e r : List ℕ) {t : ℕ} → length r ≡ 4 → getD r 0 0 < 2 ^ 32 → getD r 1 0 < 2 ^ 32 → getD r 2 0 < 2 ^ 32 → t ≡ trial e
-    → (eqb (getD r 0 0) t && leb 1 (getD r 1 0) && leb 1 (getD r 2 0 / 16777216) && leb (getD r 2 0 / 16777216) 4 && eqb (getD r 3 0 % 16777216) 0)
+pub record-row : (e r : List ℕ) {t n : ℕ} → length r ≡ 4 → getD r 0 0 < 2 ^ 32 → getD r 1 0 < 2 ^ 32 → getD r 2 0 < 2 ^ 32 → t ≡ trial e → n ≡ replicates e
+    → (eqb (getD r 0 0) t && leb 1 (getD r 1 0) && leb 1 (getD r 2 0 / 16777216) && leb (getD r 2 0 / 16777216) n && eqb (getD r 3 0 % 16777216) 0)
     ≡ recordHolds e (bytesOf r)
-record-row e (a ∷ b ∷ c ∷ d ∷ []) l ha hb hc h = rw h (sym (record-words e a b c d ha hb hc))
-record-row e [] l ha hb hc h = let z : ⊥ = omega arith in absurd z
-record-row e (a ∷ []) l ha hb hc h = let z : ⊥ = omega arith in absurd z
-record-row e (a ∷ b ∷ []) l ha hb hc h = let z : ⊥ = omega arith in absurd z
-record-row e (a ∷ b ∷ c ∷ []) l ha hb hc h = let z : ⊥ = omega arith in absurd z
-record-row e (a ∷ b ∷ c ∷ d ∷ x ∷ r) l ha hb hc h = let z : ⊥ = omega arith in absurd z
+record-row e (a ∷ b ∷ c ∷ d ∷ []) l ha hb hc h k = rw (h, k) (sym (record-words e a b c d ha hb hc))
+record-row e [] l ha hb hc h k = let z : ⊥ = omega arith in absurd z
+record-row e (a ∷ []) l ha hb hc h k = let z : ⊥ = omega arith in absurd z
+record-row e (a ∷ b ∷ []) l ha hb hc h k = let z : ⊥ = omega arith in absurd z
+record-row e (a ∷ b ∷ c ∷ []) l ha hb hc h k = let z : ⊥ = omega arith in absurd z
+record-row e (a ∷ b ∷ c ∷ d ∷ x ∷ r) l ha hb hc h k = let z : ⊥ = omega arith in absurd z

@@ -2,13 +2,13 @@
 use Prim.Native.Nat.{ℕ}
 use mathlib.Core.List.{List}
 use Rattle.clefia_spec.specs.Words.{choose}
-use Rattle.planbook_spec.specs.Book.{trial, count, entryHolds}
+use Rattle.planbook_spec.specs.Book.{trial, count, replicates, entryHolds}
 use Rattle.entries.specs.declared.entry.Sheet.{Sheet}
 use Rattle.entries.specs.declared.entry.Entry.{Entry}
 use Rattle.entries.specs.declared.entry.Entry.the-variants.{Good, Broken}
 
 abbrev pub sheetOf : List ℕ → Sheet
-sheetOf e = record { trial = trial e; count = count e }
+sheetOf e = record { trial = trial e; count = count e; replicates = replicates e }
 
 abbrev pub entryOf : ℕ → List ℕ → Entry
 entryOf previous e = choose (entryHolds previous e) (Good (sheetOf e)) Broken

@@ -3,13 +3,15 @@ ghost use mathlib.Core.Path.{_≡_};
 ghost use mathlib.Core.Bool.{_&&_};
 ghost use Prim.Native.Nat.{_+_, _*_, _≤_};
 ghost use lib.ListN.{length};
-ghost use Rattle.planbook_spec.specs.Book.{number};
+ghost use Rattle.planbook_spec.specs.Book.{number, replicates};
 ghost use Rattle.entries.specs.Entry.{sheetOf, entryOf};
 
 pub struct Sheet {
     pub trial: u32,
     // How many records.
     pub count: usize,
+    // The greatest replicate that a record may have.
+    pub replicates: u32,
 }
 
 pub enum Entry {
@@ -31,6 +33,14 @@ pub fn half(src: &[u8], at: usize) -> usize
     join(src[at], src[at + 1])
 }
 
+// The number of replicates. 0 stands in the books of past seasons, and is read as 4.
+fn read_replicates(entry: &[u8]) -> u32
+    requires { ⌜ length (now entry) ≡ 24 ⌝ }
+    ensures { λ r. ⌜ r ≡ replicates (now (entry .entry)) ⌝ }
+{
+    if entry[6] == 0 { 4 } else { entry[6] as u32 }
+}
+
 // The sheet that an entry tells of, whether it holds or not.
 pub fn read_sheet(entry: &[u8]) -> Sheet
     requires { ⌜ length (now entry) ≡ 24 ⌝ }
@@ -39,6 +49,7 @@ pub fn read_sheet(entry: &[u8]) -> Sheet
     Sheet {
         trial: rows::word(entry, 0),
         count: half(entry, 4),
+        replicates: read_replicates(entry),
     }
 }
 
@@ -59,7 +70,7 @@ pub fn read_entry(entry: &[u8], previous: u32) -> Entry
         previous < sheet.trial,
         1 <= sheet.count,
         sheet.count <= 1024,
-        entry[6] == 0,
+        sheet.replicates <= 8,
         entry[7] == 0,
     ) {
         Entry::Good(sheet)

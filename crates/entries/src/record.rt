@@ -18,7 +18,7 @@ pub fn record_holds(sheet: Sheet, r: [u32; 4]) -> bool
         r[0] == sheet.trial,
         1 <= r[1],
         1 <= replicate,
-        replicate <= 4,
+        replicate <= sheet.replicates,
         r[3] % 16777216 == 0,
     )
 }

@@ -4,5 +4,6 @@ pub mod BookLaws
 pub mod BookCipher
 pub mod Demands
 pub mod OutputLengths
+pub mod PastSeasons
 pub mod Received
 pub mod WalkLaws

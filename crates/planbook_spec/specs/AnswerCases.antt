@@ -9,7 +9,7 @@ use Rattle.clefia_spec.specs.Words.{fromDigits, xors}
 use Rattle.clefia_spec.specs.Cases.{Case, _gives_, AllHold, allSame, computed}
 use Rattle.planbook_spec.specs.Outcome.{answer, after, judged}
 use Rattle.planbook_spec.specs.Checks.{keyCheck, wayCheck, blockCheck, outputCheck, constantCount, expandedCount, constantsCall, expandKeyCall, blockChecks, encryptBlockCall, decryptBlockCall}
-use Rattle.planbook_spec.specs.Book.{number, pieces, entryHolds, entriesHold, recordHolds, allRecordsHold, recordCount, formChecks, eachBody, sheetsHold, recordsCheck, cbcEncrypt, cbcDecrypt, encryptBody, decryptBody, recoded, bookChecks, encryptBookBy, decryptBookBy, encryptBookCall, decryptBookCall}
+use Rattle.planbook_spec.specs.Book.{number, pieces, replicates, entryHolds, entriesHold, recordHolds, allRecordsHold, recordCount, formChecks, eachBody, sheetsHold, recordsCheck, cbcEncrypt, cbcDecrypt, encryptBody, decryptBody, recoded, bookChecks, encryptBookBy, decryptBookBy, encryptBookCall, decryptBookCall}
 
 -- The toy: the bytes of a block rotated by one place.
 abbrev pub toyEncrypt : List ℕ → List ℕ
@@ -36,6 +36,10 @@ entryOf t n v = 0 ∷ 0 ∷ 0 ∷ t ∷ 0 ∷ n ∷ 0 ∷ 0 ∷ rising 16 v
 -- A clear book of one record: trial 41, entry 7, replicate 2. The entry stands at byte 4, the record at byte 28.
 abbrev pub small : List ℕ
 small = 1 ∷ 0 ∷ 0 ∷ 1 ∷ entryOf 41 1 0x10 ++ (0 ∷ 0 ∷ 0 ∷ 41 ∷ 0 ∷ 0 ∷ 0 ∷ 7 ∷ 2 ∷ replicate 7 0)
+
+-- The same with byte 6 of its entry, the number of replicates, and with a replicate of its record.
+abbrev pub replicated : ℕ → ℕ → List ℕ
+replicated b r = set (set small 10 b) 36 r
 
 -- A clear book of two sheets, of two records and of one: entries at bytes 4 and 28, records at 52, 68 and 84.
 abbrev pub twoEntries : List ℕ
@@ -75,11 +79,10 @@ bookCases =
     -- 8: 64 sheets pass, and their contents are not there
     ∷ (encrypting (set small 3 64) ∷ [] gives 8 * 2 ^ 32 ∷ [])
     ∷ (encrypting (take 27 small) ∷ [] gives 8 * 2 ^ 32 ∷ [])
-    -- 9: trial 0; no record; 1025 records; each of the two zero bytes; trials that do not rise
+    -- 9: trial 0; no record; 1025 records; byte 7; trials that do not rise
     ∷ (encrypting (set small 7 0) ∷ [] gives 9 * 2 ^ 32 ∷ [])
     ∷ (encrypting (set small 9 0) ∷ [] gives 9 * 2 ^ 32 ∷ [])
     ∷ (encrypting (set (set small 8 4) 9 1) ∷ [] gives 9 * 2 ^ 32 ∷ [])
-    ∷ (encrypting (set small 10 1) ∷ [] gives 9 * 2 ^ 32 ∷ [])
     ∷ (encrypting (set small 11 1) ∷ [] gives 9 * 2 ^ 32 ∷ [])
     ∷ (encrypting (set large 31 41) ∷ [] gives 9 * 2 ^ 32 ∷ [])
     -- 10: the contents are there, to the byte, and the body is not; 1024 records pass, and are not there; a byte too few; a byte too many
@@ -111,6 +114,20 @@ bookCases =
     ∷ (encrypting (set small 36 4) ∷ [] gives 1 ∷ [])
     ∷ (encrypting (sets small 37 (255 ∷ 255 ∷ 255 ∷ 255 ∷ [])) ∷ [] gives 1 ∷ [])
     ∷ (encrypting (sets (sets small 28 (replicate 8 255)) 4 (replicate 4 255)) ∷ [] gives 1 ∷ [])
+    -- byte 6 of an entry: 0, 1, 4 and 8 are accepted; 9 and 255 are not, and 9 comes before 11
+    ∷ (encrypting (replicated 0 1) ∷ encrypting (replicated 1 1) ∷ encrypting (replicated 4 1) ∷ encrypting (replicated 8 1) ∷ [] gives 1 ∷ 1 ∷ 1 ∷ 1 ∷ [])
+    ∷ (encrypting (replicated 9 1) ∷ encrypting (replicated 255 1) ∷ encrypting (replicated 9 0) ∷ [] gives 9 * 2 ^ 32 ∷ 9 * 2 ^ 32 ∷ 9 * 2 ^ 32 ∷ [])
+    -- the greatest replicate, and one more: under 0, 4, 5, 1 and 8; and 4 under 5
+    ∷ (encrypting (replicated 0 4) ∷ encrypting (replicated 0 5) ∷ [] gives 1 ∷ 11 * 2 ^ 32 ∷ [])
+    ∷ (encrypting (replicated 4 4) ∷ encrypting (replicated 4 5) ∷ [] gives 1 ∷ 11 * 2 ^ 32 ∷ [])
+    ∷ (encrypting (replicated 5 5) ∷ encrypting (replicated 5 6) ∷ encrypting (replicated 5 4) ∷ [] gives 1 ∷ 11 * 2 ^ 32 ∷ 1 ∷ [])
+    ∷ (encrypting (replicated 1 1) ∷ encrypting (replicated 1 2) ∷ [] gives 1 ∷ 11 * 2 ^ 32 ∷ [])
+    ∷ (encrypting (replicated 8 8) ∷ encrypting (replicated 8 9) ∷ [] gives 1 ∷ 11 * 2 ^ 32 ∷ [])
+    -- replicate 5 in the second sheet: its own number counts, and not that of the first
+    ∷ (encrypting (set (set large 10 5) 92 5) ∷ encrypting (set (set large 34 5) 92 5) ∷ [] gives 11 * 2 ^ 32 ∷ 3 ∷ [])
+    -- 0 and 4 in byte 6 are two books, and in what they become that byte alone differs
+    ∷ (encrypting (set large 10 4) ∷ after large (encryptBookBy [] toyEncrypt (set large 10 4) large) gives 3 ∷ set encryptedLarge 10 4)
+    ∷ (decrypting (set encryptedLarge 10 4) ∷ after large (decryptBookBy [] toyDecrypt (set encryptedLarge 10 4) large) gives 3 ∷ set large 10 4)
     -- 4 comes before 5
     ∷ (answer (encryptBookBy [] toyEncrypt (1 ∷ 0 ∷ 0 ∷ []) (replicate 4 0)) ∷ [] gives 4 * 2 ^ 32 ∷ [])
     -- decrypting: a clear book; clear records under the mark of a sealed book; replicate 5, and 4, once the chain is undone
@@ -118,10 +135,14 @@ bookCases =
     ∷ (decrypting (set large 0 2) ∷ [] gives 11 * 2 ^ 32 ∷ [])
     ∷ (decrypting (set encryptedLarge 91 0x2d) ∷ [] gives 11 * 2 ^ 32 ∷ [])
     ∷ (decrypting (set encryptedLarge 91 0x2c) ∷ [] gives 3 ∷ [])
+    -- decrypting: replicate 5 where the first sheet has five, and where its own has; 8 and 9 where its own has eight; byte 6 of 9
+    ∷ (decrypting (set (set encryptedLarge 10 5) 91 0x2d) ∷ decrypting (set (set encryptedLarge 34 5) 91 0x2d) ∷ [] gives 11 * 2 ^ 32 ∷ 3 ∷ [])
+    ∷ (decrypting (set (set encryptedLarge 34 8) 91 0x20) ∷ decrypting (set (set encryptedLarge 34 8) 91 0x21) ∷ [] gives 3 ∷ 11 * 2 ^ 32 ∷ [])
+    ∷ (decrypting (set encryptedLarge 34 9) ∷ [] gives 9 * 2 ^ 32 ∷ [])
     ∷ []
 
 pub bookCases-hold : AllHold bookCases
-unfolding bookCases rising allSame fromDigits xors answer after judged outputCheck number pieces entryHolds entriesHold recordHolds allRecordsHold recordCount formChecks eachBody sheetsHold recordsCheck cbcEncrypt cbcDecrypt encryptBody decryptBody recoded bookChecks encryptBookBy decryptBookBy
+unfolding bookCases rising allSame fromDigits xors answer after judged outputCheck number pieces replicates entryHolds entriesHold recordHolds allRecordsHold recordCount formChecks eachBody sheetsHold recordsCheck cbcEncrypt cbcDecrypt encryptBody decryptBody recoded bookChecks encryptBookBy decryptBookBy
 bookCases-hold = computed bookCases refl
 
 -- Checks 1 to 5, most with two or more that fail at once, and the counts.

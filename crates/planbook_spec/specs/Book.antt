@@ -8,7 +8,7 @@ use mathlib.Core.Bool.{Bool, true, _&&_}
 use mathlib.Core.List.{List, [], _∷_, _++_}
 use lib.Dec.{eqb, leb, ltb}
 use lib.ListN.{length, getD, take, drop}
-use Rattle.clefia_spec.specs.Words.{fromDigits, xors}
+use Rattle.clefia_spec.specs.Words.{choose, fromDigits, xors}
 use Rattle.clefia_spec.specs.Block.{encrypt, decrypt}
 use Rattle.planbook_spec.specs.Outcome.{Outcome, accepted, Check, check, judged}
 use Rattle.planbook_spec.specs.Checks.{outputCheck, keyAndWay}
@@ -22,20 +22,24 @@ unfoldable pub pieces : ℕ → ℕ → List ℕ → List (List ℕ)
 pieces k zero bs = []
 pieces k (suc n) bs = take k bs ∷ pieces k n (drop k bs)
 
--- An entry of the contents: trial (4 bytes), count of records (2), two zero bytes, and the iv (16; document 01's term: start block).
+-- An entry of the contents: trial (4 bytes), count of records (2), number of replicates (1), a zero byte, and the iv (16; document 01's term: start block).
 abbrev pub trial : List ℕ → ℕ
 trial e = number 0 4 e
 
 abbrev pub count : List ℕ → ℕ
 count e = number 4 2 e
 
+-- How many replicates the entry's trial has: byte 6, where 0 is read as 4. The books of past seasons have 0 there, and four replicates.
+unfoldable pub replicates : List ℕ → ℕ
+replicates e = choose (eqb (getD e 6 0) 0) 4 (getD e 6 0)
+
 abbrev pub iv : List ℕ → List ℕ
 iv e = take 16 (drop 8 e)
 
 -- What holds of an entry, given the trial of the entry before it, or 0 before the first: the trial is above that, and so at least 1; there are 1 to 1024
--- records; bytes 6 and 7 are zero. (Document 01 calls an entry that breaks this broken.)
+-- records, and at most 8 replicates; byte 7 is zero. (Document 01 calls an entry that breaks this broken.)
 unfoldable pub entryHolds : ℕ → List ℕ → Bool
-entryHolds previous e = ltb previous (trial e) && leb 1 (count e) && leb (count e) 1024 && eqb (getD e 6 0) 0 && eqb (getD e 7 0) 0
+entryHolds previous e = ltb previous (trial e) && leb 1 (count e) && leb (count e) 1024 && leb (replicates e) 8 && eqb (getD e 7 0) 0
 
 unfoldable pub entriesHold : ℕ → List (List ℕ) → Bool
 entriesHold previous [] = true
@@ -51,10 +55,10 @@ recordEntry r = number 4 4 r
 abbrev pub recordReplicate : List ℕ → ℕ
 recordReplicate r = getD r 8 0
 
--- What holds of a record, given the entry e of its sheet: the trial is the sheet's, the entry at least 1, the replicate 1 to 4, any row, any column, and
--- the last three bytes zero.
+-- What holds of a record, given the entry e of its sheet: the trial is the sheet's, the entry at least 1, the replicate from 1 to the sheet's number of
+-- replicates, any row, any column, and the last three bytes zero.
 unfoldable pub recordHolds : List ℕ → List ℕ → Bool
-recordHolds e r = eqb (recordTrial r) (trial e) && leb 1 (recordEntry r) && leb 1 (recordReplicate r) && leb (recordReplicate r) 4 && eqb (number 13 3 r) 0
+recordHolds e r = eqb (recordTrial r) (trial e) && leb 1 (recordEntry r) && leb 1 (recordReplicate r) && leb (recordReplicate r) (replicates e) && eqb (number 13 3 r) 0
 
 unfoldable pub allRecordsHold : List ℕ → List (List ℕ) → Bool
 allRecordsHold e [] = true

@@ -6,7 +6,7 @@ use Rattle.entries.proofs.entry.read_sheet.Tie as tie
 
 returns : tie.Need-returns
 unfolding number
-returns c = rw (c .before .word .ensures, c .half .ensures)
+returns c = rw (c .before .before .word .ensures, c .before .half .ensures, c .read-replicates .ensures)
 
 pub read-sheet-spec : {M : Type 1} → statement M
-read-sheet-spec = tie.close (tie.spec (λ c κs. search needs) (λ c κs. search needs) returns)
+read-sheet-spec = tie.close (tie.spec (λ c κs. search needs) (λ c κs. search needs) (λ c κs. search needs) returns)

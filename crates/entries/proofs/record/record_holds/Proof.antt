@@ -11,9 +11,9 @@ use Rattle.entries.proofs.record.record_holds.Tie as tie
 
 returns : tie.Need-returns
 returns c =
-    let a : tie.Start = c .before .before in
+    let a : tie.Start = c .before .before .before in
     let fits : (i : ℕ) → getD (a .args .t2) i 0 < 2 ^ 32 = λ i. elem-fits w32 w32 (a .args .t2) _ i (a .good .1 .0 .1 .1) tt .fits in
-    λ e h. c .all .ensures ∙ record-row e (a .args .t2) (search needs) (fits 0) (fits 1) (fits 2) (ap (λ (s : Sheet). s .trial) h)
+    λ e h. c .all .ensures ∙ record-row e (a .args .t2) (search needs) (fits 0) (fits 1) (fits 2) (ap (λ (s : Sheet). s .trial) h) (ap (λ (s : Sheet). s .replicates) h)
 
 pub record-holds-spec : {M : Type 1} → statement M
 record-holds-spec =

@@ -1,0 +1,190 @@
+# Part of tests/cli/run: the file of trials, its start blocks and numbers of replicates, and books of past seasons.
+
+# plan_of LINE..: a plan whose lines after the header are these.
+plan_of() { printf '%s\n' $header "$@" >damaged-plan.csv; }
+
+# bad_trials STATUS SENTENCE HEADER LINE..: a file of trials that is refused, whatever it is given for.
+bad_trials() {
+    status=$1
+    sentence=$2
+    shift 2
+    printf '%s\n' "$@" >damaged.csv
+    expect_nothing x "$status" "$sentence" pack --trials damaged.csv plan.csv x
+    expect_nothing x "$status" "$sentence" seal --key key128 --trials damaged.csv plan.csv x
+    expect "$status" "$sentence" check --trials damaged.csv plan.csv
+}
+
+both=trial,start_block
+
+# Which trials have a line, which columns there are, and where the file is taken.
+test_trials() {
+    plan_of $good 42,7,2,12,3 40,7,2,12,3
+    expect_exactly 2 "planbook: damaged-plan.csv, line 4: trial 40 has no line in trials.csv
+planbook: damaged-plan.csv, line 3: trial 42 has no line in trials.csv" pack --trials trials.csv damaged-plan.csv x
+    plan_of
+    expect_nothing x 2 "trials.csv, line 2: trial 41 has no line in damaged-plan.csv" pack --trials trials.csv damaged-plan.csv x
+    bad_trials 2 "damaged.csv, line 3: trial 41 stands in line 2 already" $both 41,$start 41,$cipher128
+    bad_trials 2 "damaged.csv, line 2: trial 40 has no line in plan.csv" $both 40,$start 41,$cipher128
+    bad_trials 2 "damaged.csv, line 3: trial 43 has no line in plan.csv" $both 41,$start 43,$cipher128
+    bad_trials 2 "plan.csv, line 2: trial 41 has no line in damaged.csv" $both
+    bad_trials 2 "damaged.csv, line 2: the line has 1 fields instead of 2" $both 41
+    bad_trials 2 'damaged.csv, line 2: the trial "x" is not a number from 0 to 4294967295' $both x,$start
+    # the columns that may be absent, and names that are nearly theirs
+    bad_trials 2 'damaged.csv, line 1: there is no column "trial" in the header, which begins with "replicates"; the columns are trial,start_block,replicates' replicates 8
+    bad_trials 2 'damaged.csv, line 1: there is more than one column "replicates"' trial,replicates,Replicates 41,8,8
+    for near in replicate REPLICATE 'replicates per trial' Replicates? ' replicates'; do
+        bad_trials 2 "damaged.csv, line 1: the column \"$near\" is not known; if it is meant as \"replicates\", name it so" "trial,$near" 41,8
+    done
+    for near in 'Start block' start-block startblock start_blocks; do
+        bad_trials 2 "damaged.csv, line 1: the column \"$near\" is not known; if it is meant as \"start_block\", name it so" "trial,$near" 41,$start
+    done
+    printf 'trial,remark,replicates\n41,seedlings,0\n' >odd.csv
+    expect_exactly 0 'planbook: warning: odd.csv, line 1: the column "remark" is not used' check --trials odd.csv plan.csv
+    printf 'trial,rep\n41,8\n' >odd.csv
+    expect 0 'the column "rep" is not used' check --trials odd.csv plan.csv
+    expect_nothing x 2 'the column "replicate" is not known' pack --trials plan.csv plan.csv x
+    # only where there is a plan
+    expect_exactly 2 "planbook: clear is not a plan (CSV), and --trials goes with a plan: a book has its trials in its contents" \
+        seal --key key128 --trials trials.csv clear x
+    expect_exactly 2 "planbook: --trials goes with a plan: name an output that ends in .csv, or give --csv" open --key key128 --trials y sealed128 x
+    expect_nothing y 2 "show has no option --trials" show --trials y clear
+    expect_nothing x 2 "plan and trials cannot both go to standard output" open --csv --key key128 --trials - sealed128
+    expect 0 "" open --csv --key key128 --trials - sealed128 x
+    same out trials.csv
+    same x plan.csv
+    rm -f x
+    expect 0 "" open --csv --key key128 --trials y sealed128
+    same out plan.csv
+    same y trials.csv
+    mode_is 600 y
+    rm -f y
+    # the former name of the option, and the file as it was then
+    printf 'trial,start_block\n41,%s\n' $start >starts.csv
+    expect 0 "" pack --starts starts.csv plan.csv x
+    same x clear
+    expect 0 "" unpack --starts=y x
+    same y trials.csv
+    expect 2 "--trials is given twice" pack --starts starts.csv --trials trials.csv plan.csv
+    rm -f x y
+}
+
+test_start_blocks() {
+    bad_trials 2 "damaged.csv, line 2: the start block \"${start}0\" is not 32 hexadecimal digits" $both 41,${start}0
+    bad_trials 2 "damaged.csv, line 2: the start block \"x${start#0}\" is not 32 hexadecimal digits" $both 41,x${start#0}
+    bad_trials 2 'damaged.csv, line 2: the start block "4g' $both 41,4g${start#00}
+    bad_trials 2 'damaged.csv, line 2: the start block "g4' $both 41,g4${start#00}
+    bad_trials 2 'damaged.csv, line 2: the start block "" is not 32 hexadecimal digits' $both 41,
+    zeros=00000000000000000000000000000000
+    printf '%s\n' $both 41,$zeros >damaged.csv
+    expect_exactly 2 "planbook: damaged.csv: the start block of trial 41 is all zeros; without the column start_block, good ones are drawn" \
+        pack --trials damaged.csv plan.csv x
+    printf '%s\n' $header $good 42,7,2,12,3 43,7,2,12,3 >three.csv
+    printf '%s\n' $both 41,$start 42,$cipher128 43,$start >damaged.csv
+    expect_exactly 2 "planbook: damaged.csv: trials 41 and 43 have the same start block; without the column start_block, good ones are drawn" \
+        pack --trials damaged.csv three.csv x
+    expect 2 "trials 41 and 43 have the same start block" check --trials damaged.csv three.csv
+    # seal never takes start blocks from a file, since those there have been used
+    unused="planbook: warning: damaged.csv: the start blocks are not used, since seal draws new ones each time; pack uses them"
+    expect_exactly 0 "$unused" seal --key key128 --trials damaged.csv three.csv x
+    holds "seal draws start blocks" [ "$("$planbook" show x | grep -ce $start -e $cipher128)" -eq 0 ]
+    rm -f x
+    printf 'trial\n41\n' >odd.csv
+    with_fault count seal --key key128 --trials odd.csv plan.csv x
+    judge "seal with a file of trials without start blocks" 0 "" $?
+    holds "the start block is what the system gave" [ "$("$planbook" show x | grep -c 0102030405060708090a0b0c0d0e0f10)" -eq 1 ]
+    # a clear book that another program made is sealed, with a warning
+    unhex 01000002 0000002900010000$zeros 0000002a00010000$zeros $record 0000002a0000000702000c0003000000 >weak
+    expect_exactly 0 "planbook: warning: weak: the start block of trial 41 is all zeros; pack draws good ones
+planbook: warning: weak: the start block of trial 42 is all zeros; pack draws good ones" seal --force --key key128 weak x
+    unhex 01000002 0000002900010000$start 0000002a00010000$start $record 0000002a0000000702000c0003000000 >weak
+    expect_exactly 0 "planbook: warning: weak: trials 41 and 42 have the same start block; pack draws good ones" seal --force --key key128 weak x
+    rm -f x
+}
+
+# numbered BYTE: the sample book with this number of replicates, in two hexadecimal digits
+numbered() { unhex 01000001 000000290001${1}00$start $record; }
+
+test_replicates() {
+    # every number that there is, packed, shown and unpacked as it stands: 0 and 4 are told apart
+    for number in 0 2 3 4 5 8; do
+        numbered 0$number >wanted
+        printf 'trial,start_block,replicates\n41,%s,%s\n' $start $number >numbers.csv
+        expect 0 "" pack --trials numbers.csv plan.csv book
+        same book wanted
+        expect 0 "" unpack --trials y.csv book x.csv
+        same y.csv numbers.csv
+        same x.csv plan.csv
+        expect 0 "" show book
+        holds "show of number $number" [ "$(sed -n 4p out)" = "$(printf '%10u %7u %10u %-9s  %s' 41 1 $((number == 0 ? 4 : number)) "$([ $number -ne 0 ] || echo '(default)')" $start)" ]
+        rm -f book x.csv y.csv
+    done
+    holds "0 and 4 make different books" [ "$(numbered 00 | cksum)" != "$(numbered 04 | cksum)" ]
+    numbered 04 >book
+    expect 0 "" show --json book
+    holds "a number that was chosen, in JSON" grep -qF '"replicates": 4, "replicates_by_default": false' out
+    # the plan alone does not say the number
+    lost="a plan does not say the number of replicates, which 1 of 1 trials have chosen; --trials writes a file that does"
+    expect_exactly 0 "planbook: warning: book: $lost" unpack book
+    same out plan.csv
+    expect 0 "" seal --key key128 book x
+    expect_exactly 0 "planbook: warning: x: $lost" open --csv --key key128 x
+    same out plan.csv
+    rm -f x book
+    # eight replicates, sealed and opened in one step, without start blocks
+    { echo $header; seq -f '41,7,%.0f,12,1' 1 8; echo 42,7,4,1,1; } >seedlings.csv
+    printf 'trial,replicates\n42,0\n41,8\n' >numbers.csv
+    expect 0 "planbook: warning: seedlings.csv, line 3" seal --key key128 --trials numbers.csv seedlings.csv s
+    expect 0 "" open --key key128 --trials y.csv s x.csv
+    same x.csv seedlings.csv
+    cut -d , -f 1,3 y.csv >got
+    printf 'trial,replicates\n41,8\n42,0\n' >wanted
+    same got wanted
+    rm -f s x.csv y.csv
+    # a record above its trial's number
+    expect 1 "seedlings.csv, line 6: replicate 5, but trial 41 has 4, the default [check 11]" check seedlings.csv
+    printf 'trial,replicates\n41,7\n42,3\n' >numbers.csv
+    plan_of 41,7,8,12,1 41,7,7,12,2 42,7,3,1,1 42,7,4,1,2
+    expect_exactly 1 "planbook: damaged-plan.csv, line 2: replicate 8, but trial 41 has 7 [check 11]
+planbook: damaged-plan.csv, line 5: replicate 4, but trial 42 has 3 [check 11]" check --trials numbers.csv damaged-plan.csv
+    # wrong numbers, each with its line
+    for number in 9 255; do
+        bad_trials 1 "damaged.csv, line 2: $number replicates, but a trial has 1 to 8, or 0 for the default of 4 [check 9]" trial,replicates 41,$number
+    done
+    for number in 256 -1 x '' ' 8' 8.0 4294967297; do
+        bad_trials 2 "damaged.csv, line 2: the number of replicates \"$number\" is not a number from 0 to 8" trial,replicates "41,$number"
+    done
+    # all of them are told, and no record is blamed for them
+    printf 'trial,start_block,replicates\n41,4g,9\n42,%s,x\n' $start >damaged.csv
+    plan_of 41,7,5,12,1 42,7,9,1,1
+    expect_exactly 2 "planbook: damaged.csv, line 2: the start block \"4g\" is not 32 hexadecimal digits
+planbook: damaged.csv, line 2: 9 replicates, but a trial has 1 to 8, or 0 for the default of 4 [check 9]
+planbook: damaged.csv, line 3: the number of replicates \"x\" is not a number from 0 to 8
+planbook: damaged-plan.csv, line 3: replicate 9, but trial 42 has 8 [check 11]" check --trials damaged.csv damaged-plan.csv
+    rm -f x
+}
+
+# Books and files that the command of the season before has made. tests/past/README.md says how.
+test_past_seasons() {
+    past=$here/tests/past
+    install -m 600 "$past/key-not-secret.hex" past.hex
+    for way in 1 2 3; do
+        expect 0 "" open --key-hex past.hex --way $way "$past/sealed.book" x
+        same x "$past/clear.book"
+        expect 0 "" seal --key-hex past.hex --way $way "$past/clear.book" y
+        same y "$past/sealed.book"
+        rm -f x y
+    done
+    expect 0 "" open --key-hex past.hex "$past/sealed.book" x.csv
+    same x.csv "$past/plan.csv"
+    expect 0 "" pack --starts "$past/starts.csv" "$past/plan.csv" book
+    same book "$past/clear.book"
+    expect 0 "" unpack --trials y.csv --force book x.csv
+    same x.csv "$past/plan.csv"
+    sed -e '1s/$/,replicates/' -e '2,$s/$/,0/' "$past/starts.csv" >wanted
+    same y.csv wanted
+    expect 0 "" pack --force --trials y.csv x.csv book
+    same book "$past/clear.book"
+    expect 0 "" show "$past/sealed.book"
+    holds "every trial of a past season has four replicates, by default" [ "$(grep -c ' 4 (default) ' out)" -eq 3 ]
+    rm -f book x.csv y.csv past.hex
+}
