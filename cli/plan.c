@@ -45,8 +45,10 @@ static void judge_record(const char *name, const struct line *line, uint32_t rep
     struct bytes record = new_bytes(PLANBOOK_RECORD_BYTES);
     put_record(record.at, &line->record);
     uint32_t check = check_record(&sheet, record.at);
+    bool above_default = replicates == 0 && line->record.entry > 0 && line->record.replicate > PLANBOOK_DEFAULT_REPLICATES;
     if (check != PLANBOOK_ACCEPTED)
-        report(check, "%s, line %zu: %s", name, line->line, record_fault(&line->record, &sheet));
+        report(check, "%s, line %zu: %s%s", name, line->line, record_fault(&line->record, &sheet),
+               check == PLANBOOK_CHECK_RECORD && above_default ? "; a file of trials (--trials) can say up to 8" : "");
     release(&record);
 }
 

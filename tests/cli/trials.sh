@@ -141,7 +141,7 @@ test_replicates() {
     same got wanted
     rm -f s x.csv y.csv
     # a record above its trial's number
-    expect 1 "seedlings.csv, line 6: replicate 5, but trial 41 has 4, the default [check 11]" check seedlings.csv
+    expect 1 "seedlings.csv, line 6: replicate 5, but trial 41 has 4, the default; a file of trials (--trials) can say up to 8 [check 11]" check seedlings.csv
     printf 'trial,replicates\n41,7\n42,3\n' >numbers.csv
     plan_of 41,7,8,12,1 41,7,7,12,2 42,7,3,1,1 42,7,4,1,2
     expect_exactly 1 "planbook: damaged-plan.csv, line 2: replicate 8, but trial 41 has 7 [check 11]

@@ -58,7 +58,7 @@ unfoldable pub pastDecryptBookBy : List Check → (List ℕ → List ℕ) → Li
 pastDecryptBookBy cs D book out =
     judged (pastBookChecks cs 2 (decryptBody D) book out) (accepted (recordCount (contents book)) (recoded 1 (decryptBody D) book))
 
--- ---- 0 in byte 6 of every entry
+-- ---- 0 in byte 6 of every entry: for any cipher, and any checks cs about key and way, so for the exported calls
 
 abbrev pub Unnumbered : List ℕ → Type 0
 Unnumbered e = getD e 6 0 ≡ 0
