@@ -267,6 +267,9 @@ struct bytes csv_field(const struct csv *csv, size_t column);
 /* The decimal number that a field is. Answers false where it is none, or above the most. */
 bool csv_number(const struct csv *csv, size_t column, uint32_t most, uint32_t *number);
 
+/* The same, where a field that is none is reported; the title is what the number is called. */
+bool csv_take_number(const struct csv *csv, size_t column, const char *title, uint32_t most, uint32_t *number);
+
 /* The header that names these columns. */
 struct text;
 void csv_print_header(struct text *text, const char *const *columns, size_t count);

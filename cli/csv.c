@@ -147,6 +147,15 @@ bool csv_number(const struct csv *csv, size_t column, uint32_t most, uint32_t *n
     return good;
 }
 
+bool csv_take_number(const struct csv *csv, size_t column, const char *title, uint32_t most, uint32_t *number)
+{
+    bool good = csv_number(csv, column, most, number);
+    if (!good)
+        report(PLANBOOK_ACCEPTED, "%s, line %zu: the %s %s is not a number from 0 to %u", csv->name, csv->line, title,
+               csv_found(csv_field(csv, column)), (unsigned)most);
+    return good;
+}
+
 /* The header */
 
 /* The first of the three that stands outside quotes in the first line. */

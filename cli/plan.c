@@ -31,11 +31,7 @@ bool is_plan(struct bytes input)
 /* A decimal number that fits its place in the book. */
 static bool take_number(const struct csv *csv, size_t column, uint32_t *number)
 {
-    bool good = csv_number(csv, column, most[column], number);
-    if (!good)
-        report(PLANBOOK_ACCEPTED, "%s, line %zu: the %s %s is not a number from 0 to %u", csv->name, csv->line, plan_columns[column],
-               csv_found(csv_field(csv, column)), (unsigned)most[column]);
-    return good;
+    return csv_take_number(csv, column, plan_columns[column], most[column], number);
 }
 
 /* The library is asked about each record by itself, so that every line it would refuse is told. */
@@ -48,7 +44,7 @@ static void judge_record(const char *name, const struct line *line, uint32_t rep
     bool above_default = replicates == 0 && line->record.entry > 0 && line->record.replicate > PLANBOOK_DEFAULT_REPLICATES;
     if (check != PLANBOOK_ACCEPTED)
         report(check, "%s, line %zu: %s%s", name, line->line, record_fault(&line->record, &sheet),
-               check == PLANBOOK_CHECK_RECORD && above_default ? "; a file of trials (--trials) can say up to 8" : "");
+               check == PLANBOOK_CHECK_RECORD && above_default ? "; a file of trials (--trials) can say more" : "");
     release(&record);
 }
 

@@ -40,11 +40,8 @@ static void read_trial(const struct csv *csv, struct lines *lines)
 {
     struct line *line = &lines->all[lines->count];
     *line = (struct line){.line = csv->line};
-    if (!csv_number(csv, TRIAL, UINT32_MAX, &line->record.trial)) {
-        report(PLANBOOK_ACCEPTED, "%s, line %zu: the trial %s is not a number from 0 to %u", csv->name, csv->line,
-               csv_found(csv_field(csv, TRIAL)), (unsigned)UINT32_MAX);
+    if (!csv_take_number(csv, TRIAL, trials_columns[TRIAL], UINT32_MAX, &line->record.trial))
         return;
-    }
     bool good = !csv_has(csv, START_BLOCK) || take_start_block(csv, line);
     good &= !csv_has(csv, REPLICATES) || take_replicates(csv, line);
     if (good)

@@ -88,7 +88,7 @@ test_bad_lines() {
     bad_line 2 'the entry "süß" is not a number from 0 to 4294967295' 41,süß,2,12,3
     bad_line 1 "entry 0, but entries begin at 1 [check 11]" 41,0,2,12,3
     bad_line 1 "replicate 0, but replicates begin at 1 [check 11]" 41,7,0,12,3
-    bad_line 1 "replicate 5, but trial 41 has 4, the default; a file of trials (--trials) can say up to 8 [check 11]" 41,7,5,12,3
+    bad_line 1 "replicate 5, but trial 41 has 4, the default; a file of trials (--trials) can say more [check 11]" 41,7,5,12,3
     bad_line 1 "trial 0, but trials begin at 1 [check 9]" 0,7,2,12,3
     bad_plan 2 "damaged.csv, line 3: the line is empty" $good '' 41,7,2,12,4
     bad_plan 2 "damaged.csv, line 3: the line is empty" $good ,,,, '' 41,7,2,12,4
@@ -96,7 +96,7 @@ test_bad_lines() {
     expect_nothing x 2 'damaged.csv, line 2: the column "3\x00" is not a number' pack damaged.csv x
     # every bad line is told, whatever is wrong with it, and the status is that of the form
     printf '%s\n' $header 41,7,5,12,9 41,7,2,12 $good x,7,2,12,4 41,0,2,12,5 >damaged.csv
-    expect_exactly 2 'planbook: damaged.csv, line 2: replicate 5, but trial 41 has 4, the default; a file of trials (--trials) can say up to 8 [check 11]
+    expect_exactly 2 'planbook: damaged.csv, line 2: replicate 5, but trial 41 has 4, the default; a file of trials (--trials) can say more [check 11]
 planbook: damaged.csv, line 3: the line has 4 fields instead of 5
 planbook: damaged.csv, line 5: the trial "x" is not a number from 0 to 4294967295
 planbook: damaged.csv, line 6: entry 0, but entries begin at 1 [check 11]' check damaged.csv

@@ -106,7 +106,7 @@ numbered() { unhex 01000001 000000290001${1}00$start $record; }
 
 test_replicates() {
     # every number that there is, packed, shown and unpacked as it stands: 0 and 4 are told apart
-    for number in 0 2 3 4 5 8; do
+    for number in 0 2 3 4 5 6 7 8; do
         numbered 0$number >wanted
         printf 'trial,start_block,replicates\n41,%s,%s\n' $start $number >numbers.csv
         expect 0 "" pack --trials numbers.csv plan.csv book
@@ -118,7 +118,6 @@ test_replicates() {
         holds "show of number $number" [ "$(sed -n 4p out)" = "$(printf '%10u %7u %10u %-9s  %s' 41 1 $((number == 0 ? 4 : number)) "$([ $number -ne 0 ] || echo '(default)')" $start)" ]
         rm -f book x.csv y.csv
     done
-    holds "0 and 4 make different books" [ "$(numbered 00 | cksum)" != "$(numbered 04 | cksum)" ]
     numbered 04 >book
     expect 0 "" show --json book
     holds "a number that was chosen, in JSON" grep -qF '"replicates": 4, "replicates_by_default": false' out
@@ -141,7 +140,7 @@ test_replicates() {
     same got wanted
     rm -f s x.csv y.csv
     # a record above its trial's number
-    expect 1 "seedlings.csv, line 6: replicate 5, but trial 41 has 4, the default; a file of trials (--trials) can say up to 8 [check 11]" check seedlings.csv
+    expect 1 "seedlings.csv, line 6: replicate 5, but trial 41 has 4, the default; a file of trials (--trials) can say more [check 11]" check seedlings.csv
     printf 'trial,replicates\n41,7\n42,3\n' >numbers.csv
     plan_of 41,7,8,12,1 41,7,7,12,2 42,7,3,1,1 42,7,4,1,2
     expect_exactly 1 "planbook: damaged-plan.csv, line 2: replicate 8, but trial 41 has 7 [check 11]

@@ -112,10 +112,10 @@ past-every cs mark f book out p =
     past-zeros 0 (contents book) (pass-head (pass-tail (pass-tail (pass-tail (pass-tail (pass-tail (pass-right cs _ p)))))))
 
 module _ (key : List ℕ) (way : ℕ) (book out : List ℕ) {n : ℕ} {bs : List ℕ} where
-  pub past-seals : pastEncryptBookBy (keyAndWay key way) (encrypt key) book out ≡ accepted n bs → encryptBookCall key way book out ≡ accepted n bs
+  pub past-accepted-encrypts : pastEncryptBookBy (keyAndWay key way) (encrypt key) book out ≡ accepted n bs → encryptBookCall key way book out ≡ accepted n bs
   unfolding pastEncryptBookBy encryptBookCall
-  past-seals a = past-encrypts (keyAndWay key way) book out (past-every _ 1 asItIs book out (passed _ _ _ a .checks)) (encrypt key) ∙ a
+  past-accepted-encrypts a = past-encrypts (keyAndWay key way) book out (past-every _ 1 asItIs book out (passed _ _ _ a .checks)) (encrypt key) ∙ a
 
-  pub past-opens : pastDecryptBookBy (keyAndWay key way) (decrypt key) book out ≡ accepted n bs → decryptBookCall key way book out ≡ accepted n bs
+  pub past-accepted-decrypts : pastDecryptBookBy (keyAndWay key way) (decrypt key) book out ≡ accepted n bs → decryptBookCall key way book out ≡ accepted n bs
   unfolding pastDecryptBookBy decryptBookCall
-  past-opens a = past-decrypts (keyAndWay key way) book out (past-every _ 2 (decryptBody (decrypt key)) book out (passed _ _ _ a .checks)) (decrypt key) ∙ a
+  past-accepted-decrypts a = past-decrypts (keyAndWay key way) book out (past-every _ 2 (decryptBody (decrypt key)) book out (passed _ _ _ a .checks)) (decrypt key) ∙ a

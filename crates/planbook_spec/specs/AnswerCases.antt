@@ -92,37 +92,35 @@ bookCases =
     ∷ (encrypting (small ++ (0 ∷ [])) ∷ [] gives 10 * 2 ^ 32 ∷ [])
     -- 10 comes before 11
     ∷ (encrypting (set (take 43 small) 35 0) ∷ [] gives 10 * 2 ^ 32 ∷ [])
-    -- 11: a trial above its sheet's, below it, and one that differs in its first byte; entry 0; replicates 0 and 5; each of the three zero bytes; the second
+    -- 11: a trial above its sheet's, below it, and one that differs in its first byte; entry 0; replicate 0; each of the three zero bytes; the second
     -- record of a sheet, and the last of two sheets
     ∷ (encrypting (set small 31 42) ∷ [] gives 11 * 2 ^ 32 ∷ [])
     ∷ (encrypting (set small 31 40) ∷ [] gives 11 * 2 ^ 32 ∷ [])
     ∷ (encrypting (set small 28 1) ∷ [] gives 11 * 2 ^ 32 ∷ [])
     ∷ (encrypting (set small 35 0) ∷ [] gives 11 * 2 ^ 32 ∷ [])
     ∷ (encrypting (set small 36 0) ∷ [] gives 11 * 2 ^ 32 ∷ [])
-    ∷ (encrypting (set small 36 5) ∷ [] gives 11 * 2 ^ 32 ∷ [])
     ∷ (encrypting (set small 41 1) ∷ [] gives 11 * 2 ^ 32 ∷ [])
     ∷ (encrypting (set small 42 1) ∷ [] gives 11 * 2 ^ 32 ∷ [])
     ∷ (encrypting (set small 43 1) ∷ [] gives 11 * 2 ^ 32 ∷ [])
     ∷ (encrypting (set large 76 0) ∷ [] gives 11 * 2 ^ 32 ∷ [])
     ∷ (encrypting (set large 92 0) ∷ [] gives 11 * 2 ^ 32 ∷ [])
-    -- accepted: trial 1; entry 1, and one that has its first byte alone; a trial that has its first byte alone; replicate 4; any row and column; the highest trial
+    -- accepted: trial 1; entry 1, and one that has its first byte alone; a trial that has its first byte alone; any row and column; the highest trial
     -- and entry
     ∷ (encrypting (set (set small 7 1) 31 1) ∷ [] gives 1 ∷ [])
     ∷ (encrypting (set small 35 1) ∷ [] gives 1 ∷ [])
     ∷ (encrypting (sets small 32 (1 ∷ 0 ∷ 0 ∷ 0 ∷ [])) ∷ [] gives 1 ∷ [])
     ∷ (encrypting (sets (sets small 28 (1 ∷ 0 ∷ 0 ∷ 0 ∷ [])) 4 (1 ∷ 0 ∷ 0 ∷ 0 ∷ [])) ∷ [] gives 1 ∷ [])
-    ∷ (encrypting (set small 36 4) ∷ [] gives 1 ∷ [])
     ∷ (encrypting (sets small 37 (255 ∷ 255 ∷ 255 ∷ 255 ∷ [])) ∷ [] gives 1 ∷ [])
     ∷ (encrypting (sets (sets small 28 (replicate 8 255)) 4 (replicate 4 255)) ∷ [] gives 1 ∷ [])
     -- byte 6 of an entry: 0, 1, 4 and 8 are accepted; 9 and 255 are not, and 9 comes before 11
     ∷ (encrypting (replicated 0 1) ∷ encrypting (replicated 1 1) ∷ encrypting (replicated 4 1) ∷ encrypting (replicated 8 1) ∷ [] gives 1 ∷ 1 ∷ 1 ∷ 1 ∷ [])
     ∷ (encrypting (replicated 9 1) ∷ encrypting (replicated 255 1) ∷ encrypting (replicated 9 0) ∷ [] gives 9 * 2 ^ 32 ∷ 9 * 2 ^ 32 ∷ 9 * 2 ^ 32 ∷ [])
-    -- the greatest replicate, and one more: under 0, 4, 5, 1 and 8; and 4 under 5
+    -- the greatest replicate, and one more: under 0, 4, 5, 8 and 1; and 4 under 5
     ∷ (encrypting (replicated 0 4) ∷ encrypting (replicated 0 5) ∷ [] gives 1 ∷ 11 * 2 ^ 32 ∷ [])
     ∷ (encrypting (replicated 4 4) ∷ encrypting (replicated 4 5) ∷ [] gives 1 ∷ 11 * 2 ^ 32 ∷ [])
     ∷ (encrypting (replicated 5 5) ∷ encrypting (replicated 5 6) ∷ encrypting (replicated 5 4) ∷ [] gives 1 ∷ 11 * 2 ^ 32 ∷ 1 ∷ [])
-    ∷ (encrypting (replicated 1 1) ∷ encrypting (replicated 1 2) ∷ [] gives 1 ∷ 11 * 2 ^ 32 ∷ [])
     ∷ (encrypting (replicated 8 8) ∷ encrypting (replicated 8 9) ∷ [] gives 1 ∷ 11 * 2 ^ 32 ∷ [])
+    ∷ (encrypting (replicated 1 2) ∷ [] gives 11 * 2 ^ 32 ∷ [])
     -- replicate 5 in the second sheet: its own number counts, and not that of the first
     ∷ (encrypting (set (set large 10 5) 92 5) ∷ encrypting (set (set large 34 5) 92 5) ∷ [] gives 11 * 2 ^ 32 ∷ 3 ∷ [])
     -- 0 and 4 in byte 6 are two books, and in what they become that byte alone differs
