@@ -1,5 +1,5 @@
 /*
- * planbook.h: sealing and opening plan books with the block cipher CLEFIA.
+ * planbook.h: sealing and opening plan books, and the notes beside them, with the block cipher CLEFIA.
  *
  * THE MODEL
  *
@@ -11,16 +11,21 @@
  * entry. Head and contents are copied, but for the first byte. A sealed book is as long as the clear one. The format is
  * written down whole in FORMAT.md, which is installed with this header; the lengths are named below.
  *
- * Six calls do the work: the constants of the key schedule, the expanded ("prepared") key, one block encrypted or
- * decrypted, one book encrypted ("sealed") or decrypted ("opened"). Every call but the first takes a "way", which is
- * the field's implementation strategy: it changes the speed and never the result.
+ * A note is any text of up to 16,384 bytes that a scorer writes beside a trial. It is sealed with CLEFIA in counter mode
+ * (NIST SP 800-38A), from a counter block that the caller gives, and opened by the same operation. A sealed note is as
+ * long as the text, and is the text's bytes and nothing more: where the counter block is kept is the caller's affair.
+ *
+ * Seven calls do the work: the constants of the key schedule, the expanded ("prepared") key, one block encrypted or
+ * decrypted, one book encrypted ("sealed") or decrypted ("opened"), one note sealed or opened. Every call but the first
+ * takes a "way", which is the field's implementation strategy: it changes the speed and never the result.
  *
  * ANSWERS
  *
  * A call answers one 64-bit number: check times 2^32, plus count. Check 0 is acceptance, and the count then says what
- * was done: words written, 1 for a block, or the number of records in the book. Another check is a refusal for the
- * reason with that number, and the count is 0. Each call tries its checks in the order given with it, and the first that
- * fails is the answer. planbook_check, planbook_count and planbook_check_sentence take an answer apart.
+ * was done: words written, 1 for a block, the number of records in the book, or that of the note's bytes. Another check
+ * is a refusal for the reason with that number, and the count is 0. Each call tries its checks in the order given with
+ * it, and the first that fails is the answer. planbook_check, planbook_count and planbook_check_sentence take an answer
+ * apart.
  *
  * A refused call has written nothing: the output holds what it held before. This is so for opening too, where the last
  * check looks at the decrypted records. An accepted call has written every byte of the output.
@@ -49,12 +54,34 @@
  * - never offer opening as a service to others, be it by hand, in a program or over a network;
  * - have the digest of the sealed file (sha256sum) sent by another way than the file, and compare the two before opening.
  *
+ * A COUNTER BLOCK SERVES ONCE
+ *
+ * Under one key no counter block may ever serve twice, neither for two notes nor for two versions of one note. Where it
+ * does, the exclusive or of the two sealed notes is that of the two texts: whoever sees both can read much of either,
+ * and whoever knows one text reads the other, without the key. No call can see this; it is the caller's duty.
+ *
+ * A note of n bytes uses up n / 16 counter blocks, rounded up: the one given and those that follow. They differ in the
+ * last four bytes alone, so notes whose first twelve bytes differ never meet. Give every note, and every new version of
+ * a note, first twelve bytes of its own under its key, and let the last four begin at zero. A database can make sure of
+ * it in one of two ways:
+ *
+ * - A table has one row for each key with the number of notes sealed under it, and a unique index on key and number for
+ *   the notes. Raise the number and commit before sealing; write it into the first twelve bytes, highest byte first.
+ *   Never lower it, and after a backup is restored draw a new key: numbers that the backup does not know may be used up.
+ * - Draw the first twelve bytes anew for each note from the system's random source (getrandom), store them beside the
+ *   note, and have a unique index on key and these bytes refuse a second use. Good for some millions of notes a key.
+ *
+ * Use a key for the notes alone: whoever may read the notes then cannot open the book, and no block of a book is a
+ * counter block.
+ *
  * WHAT IS NOT PROMISED
  *
  * - Timing. Ways 1 and 2 read tables at places that depend on secret bytes. No way is promised to take the same time for
  *   all keys and records.
  * - Who wrote a book. Sealing is not authenticated: a changed sealed book may open as another plan. Compare its digest.
  * - The right key. A wrong key mostly meets check 11, but a book may open under it as another plan.
+ * - The right text. A note has no check of its text: a wrong key or counter block gives other bytes without a refusal, and
+ *   each bit that is changed in a sealed note is changed in the text. Its length can be read.
  * - Secrecy of the contents. Trials, record counts, numbers of replicates and start blocks stay readable in a sealed book.
  * - Keys and start blocks. The caller draws them. Use a start block once under a key; it should not be predictable.
  * - Wiping. No call wipes what it leaves on the stack; planbook_wipe_stack does. Registers are not wiped, nor copies that
@@ -71,7 +98,7 @@
 extern "C" {
 #endif
 
-#define PLANBOOK_VERSION "1.0.0"
+#define PLANBOOK_VERSION "1.1.0"
 
 /* Not part of the interface: a cast that neither language warns of, and the compiler's attributes. */
 #ifdef __cplusplus
@@ -116,6 +143,11 @@ extern "C" {
 #define PLANBOOK_MIN_BOOK_BYTES 4
 #define PLANBOOK_MAX_BOOK_BYTES 65532
 
+/* A note may be empty. Of its counter block the first bytes stay, and the last four count. */
+#define PLANBOOK_MAX_NOTE_BYTES 16384
+#define PLANBOOK_COUNTER_BYTES PLANBOOK_BLOCK_BYTES
+#define PLANBOOK_COUNTER_PREFIX_BYTES 12
+
 /* The first byte of a book. */
 #define PLANBOOK_CLEAR 1
 #define PLANBOOK_SEALED 2
@@ -141,6 +173,7 @@ extern "C" {
 #define PLANBOOK_CHECK_ENTRY 9
 #define PLANBOOK_CHECK_BODY_LENGTH 10
 #define PLANBOOK_CHECK_RECORD 11
+#define PLANBOOK_CHECK_NOTE_LENGTH 12
 
 /*
  * The constants of the key schedule for keys of key_length bytes, as words of four bytes, highest first.
@@ -206,13 +239,33 @@ PLANBOOK_MUST_USE uint64_t planbook_encrypt_book(const uint8_t *key, size_t key_
 PLANBOOK_MUST_USE uint64_t planbook_decrypt_book(const uint8_t *key, size_t key_len, uint64_t way,
                                                  const uint8_t *book, size_t book_len, uint8_t *out, size_t out_len);
 
+/*
+ * Seals a note, or opens a sealed one: counter mode takes itself back, so both are this call, with the same key and the
+ * same counter block. Read "A counter block serves once" above before the first use.
+ *
+ * The note is exclusive-ored with the encrypted counter blocks. The first is the one given; in each that follows, the last
+ * four bytes, a number with the highest byte first, are one higher, and zero after ffffffff; the first twelve stay. Of the
+ * last encrypted block as many leading bytes are used as the note still has.
+ *
+ *   key, key_len          the key, 16, 24 or 32 bytes
+ *   way                   PLANBOOK_WAY_..
+ *   counter, counter_len  the first counter block, 16 bytes
+ *   note, note_len        the note, clear or sealed, 0 to 16,384 bytes
+ *   out, out_len          the result; out_len is note_len
+ *
+ * Checks: 1 (key_len), 2 (way), 3 (counter_len), 4 (out_len), 12 (note_len). Count: the note's bytes; 0 is a good answer.
+ */
+PLANBOOK_MUST_USE uint64_t planbook_crypt_note(const uint8_t *key, size_t key_len, uint64_t way,
+                                               const uint8_t *counter, size_t counter_len,
+                                               const uint8_t *note, size_t note_len, uint8_t *out, size_t out_len);
+
 /* The check of an answer: PLANBOOK_ACCEPTED or PLANBOOK_CHECK_... */
 static inline uint32_t planbook_check(uint64_t answer)
 {
     return PLANBOOK_CAST(uint32_t, answer >> 32);
 }
 
-/* The count of an answer: words, blocks or records; 0 after a refusal. */
+/* The count of an answer: words, blocks, records or a note's bytes; 0 after a refusal. */
 static inline uint32_t planbook_count(uint64_t answer)
 {
     return PLANBOOK_CAST(uint32_t, answer & 0xffffffffu);
@@ -225,7 +278,7 @@ static inline const char *planbook_check_sentence(uint32_t check)
     case PLANBOOK_ACCEPTED: return "accepted";
     case PLANBOOK_CHECK_KEY_LENGTH: return "the key is not 16, 24 or 32 bytes long";
     case PLANBOOK_CHECK_WAY: return "the way is not 1, 2 or 3";
-    case PLANBOOK_CHECK_BLOCK_LENGTH: return "the block is not 16 bytes long";
+    case PLANBOOK_CHECK_BLOCK_LENGTH: return "the block, or the counter block of a note, is not 16 bytes long";
     case PLANBOOK_CHECK_OUTPUT_LENGTH: return "the output does not have the length that this call demands";
     case PLANBOOK_CHECK_BOOK_LENGTH: return "the book is shorter than 4 or longer than 65532 bytes";
     case PLANBOOK_CHECK_BOOK_KIND: return "the book does not begin with 01 00 (clear) for sealing or 02 00 (sealed) for opening";
@@ -238,6 +291,7 @@ static inline const char *planbook_check_sentence(uint32_t check)
     case PLANBOOK_CHECK_RECORD:
         return "a record breaks its rule: its sheet's trial, entry at least 1, replicate from 1 to its sheet's number of "
                "replicates, three zero bytes at the end; in opening, the key may be the wrong one";
+    case PLANBOOK_CHECK_NOTE_LENGTH: return "the note is longer than 16384 bytes";
     default: return "there is no check of this number";
     }
 }

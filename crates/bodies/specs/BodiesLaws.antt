@@ -8,8 +8,7 @@ use lib.ListN.{length, take, drop}
 use Rattle.planbook_spec.specs.Book.{count, pieces, sheetCount, contents, bodies, recordCount, eachBody}
 use Rattle.planbook_laws.specs.WalkLaws.{body-next, bodies-at}
 use Rattle.planbook_laws.specs.BookLaws.{Formed}
-use Rattle.chain.specs.ChainLaws.{fill-part, length-part}
-use Rattle.rows.specs.Rows.{fill-end}
+use Rattle.rows.specs.Rows.{fill-end, fill-part, length-part}
 use Rattle.walk.specs.Walk.{entryAt, Placed, placed-start, Next, next}
 
 pub record Filled (f : List ℕ → List ℕ → List ℕ) (book o out : List ℕ) (from at left : ℕ) : Type 0 where

@@ -1,22 +1,21 @@
--- Laws of chains: what a step on words is on bytes, and stretches of an output that are filled one after the other.
+-- Laws of chains: what a step on words is on bytes, and a body that is filled block by block.
 use Prim.Native.Nat.{ℕ, zero, suc, _+_, _-_, _*_, _^_, _≤_, _<_}
 use mathlib.Core.Path.{_≡_, sym, ap, ap₂, _∙_}
 use mathlib.Core.Bool.{Bool, true, false, _&&_, and-assoc, and-true}
-use mathlib.Core.List.{List, _∷_, _++_, append-assoc}
+use mathlib.Core.List.{List, _∷_, _++_}
 use native.Mathlib.Omega.{arith}
-use borrow.Rule.Slice.PartMut.{putMid, same-len-mid, mid-len}
+use borrow.Rule.Slice.PartMut.{putMid}
 use lib.Dec.{lit<}
-use lib.ListN.{length, take, drop, length-append, length-drop}
+use lib.ListN.{length, take, drop, length-drop}
 use lib.Seq.{length-take-le, take-at, drop-at}
 use Rattle.clefia_spec.specs.Words.{bytesOf, wordsOf, xors, choose, Below}
 use Rattle.clefia_laws.specs.DigitLaws.{below-take, below-drop, length-digitsOf, below-digitsOf, numbersOf-xors, digitsOf-xors}
 use Rattle.clefia_laws.specs.RowLaws.{Row, sized-xors}
 use Rattle.clefia_spec.specs.Block.{encryptWords, decryptWords, encryptUnder, decryptUnder}
-use Rattle.clefia_laws.specs.BlockLaws.{block-words, row-block, row-encryptWords, row-decryptWords}
+use Rattle.clefia_laws.specs.BlockLaws.{block-words, row-block, words-at, block-at, row-encryptWords, row-decryptWords}
 use Rattle.planbook_spec.specs.Book.{count, iv, pieces, recordHolds, allRecordsHold, sheetHolds, cbcEncrypt, cbcDecrypt, encryptBody, decryptBody}
 use Rattle.planbook_laws.specs.WalkLaws.{encrypt-next, decrypt-next}
-use Rattle.rows.specs.Rows.{fill-end}
-use Rattle.entries.specs.Blocks.{block-at, words-at}
+use Rattle.rows.specs.Rows.{fill-end, fill-part, length-part}
 use Rattle.chain.specs.declared.Chain.{Chain}
 use Rattle.chain.specs.declared.Step.{Step}
 use Rattle.chain.specs.Chain.{encryptStep, decryptStep}
@@ -50,21 +49,6 @@ module _ {w p bs : List ℕ} (words : Below (2 ^ 32) w) (before : Row 4 p) (byte
   decrypt-step =
       ap (λ (s : List ℕ). xors (bytesOf p) (bytesOf (decryptWords w s))) (words-at bs long)
       ∙ sym (digitsOf-xors 8 4 p (decryptWords w (wordsOf 4 bs)) (before .size ∙ sym (row-decryptWords words (row-block bytes) .size)))
-
--- ---- stretches of an output, filled one after the other
-
--- A part has come back: what stands before its end.
-pub fill-part : (at n : ℕ) (out part rest : List ℕ) {whole : List ℕ} → length part ≡ n → at + n ≤ length out
-    → take at out ++ (part ++ rest) ≡ whole → take (at + n) (putMid at (at + n - at) out part) ++ rest ≡ whole
-fill-part at n out part rest {whole} l h e =
-    let front : length (take at out ++ part) ≡ at + n = length-append (take at out) part ∙ omega (arith, length-take-le at out (omega arith)) in
-    ap (λ (x : List ℕ). take (at + n) x ++ rest) (sym (append-assoc (take at out) part _))
-    ∙ ap (λ (x : List ℕ). x ++ rest) (take-at (take at out ++ part) _ (at + n) front)
-    ∙ append-assoc (take at out) part rest ∙ e
-
-pub length-part : (at n : ℕ) (out part : List ℕ) → length part ≡ n → at + n ≤ length out → length (putMid at (at + n - at) out part) ≡ length out
-length-part at n out part l h =
-    same-len-mid at (at + n - at) out part (l ∙ sym (mid-len at (at + n) out h ∙ omega arith))
 
 -- ---- the body of a sheet in either direction, block by block: `left` blocks are to come, the first of them at `at`
 

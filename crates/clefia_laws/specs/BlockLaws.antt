@@ -1,12 +1,15 @@
 -- Decryption undoes encryption and encryption undoes decryption, on every block: under any words of a permitted count, and under every key of a permitted
 -- length. So encryption is injective. What comes out is a block of 16 bytes.
-use Prim.Native.Nat.{ℕ, _*_, _^_, _<_}
+use Prim.Native.Nat.{ℕ, zero, suc, _+_, _*_, _^_, _≤_, _<_}
 use mathlib.Core.Path.{_≡_, refl, sym, ap, _∙_}
-use mathlib.Core.List.{List, [], _∷_}
+use mathlib.Core.List.{List, [], _∷_, _++_}
+use native.Mathlib.Nat.{suc-mul, mod-eq-of-lt}
+use native.Mathlib.Omega.{arith}
 use lib.Dec.{lit<}
-use lib.ListN.{length, getD}
-use Rattle.clefia_spec.specs.Words.{bytesOf, wordsOf, KeyLength, Below, none, more}
-use Rattle.clefia_laws.specs.DigitLaws.{length-digitsOf, length-numbersOf, numbers-digits, digits-numbers, below-digitsOf, below-numbersOf, below-getD, xors-cancel}
+use lib.ListN.{length, getD, take, drop, length-drop, take-append-drop}
+use lib.Seq.{take-append-le, drop-append-le, length-take-le}
+use Rattle.clefia_spec.specs.Words.{fromDigits, toDigits, numbersOf, bytesOf, wordsOf, KeyLength, Below, none, more}
+use Rattle.clefia_laws.specs.DigitLaws.{length-digitsOf, length-numbersOf, numbers-digits, digits-numbers, below-digitsOf, below-numbersOf, below-getD, below-take, from-to, xors-cancel}
 use Rattle.clefia_spec.specs.FFunction.{f0, f1}
 use Rattle.clefia_laws.specs.FFunctionLaws.{f0-lt, f1-lt}
 use Rattle.clefia_spec.specs.Network.{network4, inverseNetwork4}
@@ -60,6 +63,9 @@ module _ {w : List ℕ} (words : Below (2 ^ 32) w) where
 
 -- ---- bytes of four words, and back
 
+pub word-back : (x : ℕ) → x < 2 ^ 32 → fromDigits 256 (toDigits 256 4 x) ≡ x
+word-back x h = from-to (lit< tt) 4 x ∙ mod-eq-of-lt h
+
 pub block-words : {s : List ℕ} → Row 4 s → wordsOf 4 (bytesOf s) ≡ s
 block-words {s} h = ap (λ (n : ℕ). wordsOf n (bytesOf s)) (sym (h .size)) ∙ numbers-digits (lit< tt) 4 (h .below)
 
@@ -71,6 +77,26 @@ row-block {b} r = record { size = length-numbersOf 256 4 4 b; below = below-numb
 
 pub block-row : {s : List ℕ} → Row 4 s → Bytes 16 (bytesOf s)
 block-row {s} h = record { size = length-digitsOf 256 4 s ∙ ap (λ (n : ℕ). n * 4) (h .size); below = below-digitsOf (lit< tt) 4 s }
+
+-- ---- a block at the front of a row of bytes
+
+-- Numbers that are written at the front of a row, whatever follows them.
+numbers-append : (b k n : ℕ) (xs ys : List ℕ) → length xs ≡ n * k → numbersOf b k n (xs ++ ys) ≡ numbersOf b k n xs
+unfolding numbersOf
+numbers-append b k zero xs ys e = refl
+numbers-append b k (suc n) xs ys e =
+    let m : length xs ≡ n * k + k = e ∙ suc-mul n k in
+    let fits : k ≤ length xs = omega arith in
+    rw (take-append-le k xs ys fits, drop-append-le k xs ys fits, numbers-append b k n (drop k xs) ys (length-drop k xs ∙ omega arith))
+
+-- The four words of the first block, and its bytes.
+pub words-at : (bs : List ℕ) → 16 ≤ length bs → wordsOf 4 (take 16 bs) ≡ wordsOf 4 bs
+words-at bs h =
+    sym (numbers-append 256 4 4 (take 16 bs) (drop 16 bs) (length-take-le 16 bs h)) ∙ ap (wordsOf 4) (take-append-drop 16 bs)
+
+pub block-at : (bs : List ℕ) → Below 256 bs → 16 ≤ length bs → bytesOf (wordsOf 4 bs) ≡ take 16 bs
+block-at bs r h =
+    ap bytesOf (sym (words-at bs h)) ∙ digits-numbers (lit< tt) 4 4 (take 16 bs) (below-take 16 r) (length-take-le 16 bs h)
 
 -- ---- blocks
 

@@ -2,7 +2,7 @@
 use Prim.Native.Nat.{ℕ, zero, suc, _+_, _*_, _/_, _%_, _^_, _<_, _≤_, _-_, min, zero-le, suc-le-suc}
 use mathlib.Core.Path.{_≡_, refl, sym, ap, ap₂, _∙_, subst}
 use mathlib.Core.List.{List, [], _∷_, _++_}
-use native.Mathlib.Nat.{pow-zero, pow-suc, pow-succ', mul-assoc, mod-one, mod-lt, mod-eq-of-lt, add-mul-div-right, add-comm, add-suc, suc-add, zero-add, mul-add-mod-self-right, suc-mul, zero-mul, lt-of-lt-of-le, zero-lt-suc, mul-pos, not-suc-le-zero, le-of-eq, pow-le-pow-right, mul-zero, mul-suc, suc-inj}
+use native.Mathlib.Nat.{le-of-suc-le-suc, pow-zero, pow-suc, pow-succ', mul-assoc, mod-one, mod-lt, mod-eq-of-lt, add-mul-div-right, add-comm, add-suc, suc-add, zero-add, mul-add-mod-self-right, suc-mul, zero-mul, lt-of-lt-of-le, zero-lt-suc, mul-pos, not-suc-le-zero, le-of-eq, pow-le-pow-right, mul-zero, mul-suc, suc-inj}
 use native.Mathlib.Omega.{arith}
 use lib.Arith.{digits-lt, digits-div, mod-mul}
 use lib.Bits.{xor-block, xor-shr, xor-mod, xor-lt}
@@ -165,6 +165,13 @@ unfolding xors
 length-xors [] ys = refl
 length-xors (x ∷ xs) [] = refl
 length-xors (x ∷ xs) (y ∷ ys) = ap suc (length-xors xs ys)
+
+pub getD-xors : (xs ys : List ℕ) (i : ℕ) → i < length xs → i < length ys → getD (xors xs ys) i 0 ≡ getD xs i 0 ⊕ getD ys i 0
+unfolding xors
+getD-xors [] ys i h k = absurd (not-suc-le-zero h)
+getD-xors (x ∷ xs) [] i h k = absurd (not-suc-le-zero k)
+getD-xors (x ∷ xs) (y ∷ ys) zero h k = refl
+getD-xors (x ∷ xs) (y ∷ ys) (suc i) h k = getD-xors xs ys i (le-of-suc-le-suc h) (le-of-suc-le-suc k)
 
 -- a mask added twice is gone
 pub xors-cancel : (xs ys : List ℕ) → xors xs (xors xs ys) ≡ ys

@@ -12,14 +12,22 @@ use samples::script::read_script;
 use samples::state::State;
 use samples::state::fewer;
 
-fn run(script: &[u8], key: &[u8], book: &mut [u8], kept: &mut [u8], output: &mut [u8]) {
+fn run(
+    script: &[u8],
+    key: &[u8],
+    counter: &mut [u8],
+    book: &mut [u8],
+    kept: &mut [u8],
+    output: &mut [u8],
+) {
     let mut state = State::new();
     let mut left: u64 = 1000000;
     while 0 < left {
         let command = command_at(script, state.at);
         state = state.after(command);
+        commands::make_counter(command, counter);
         commands::run(command, script, state, book, kept, output);
-        run_call(command, script, state, key, book, output);
+        run_call(command, script, state, key, counter, book, output);
         left = fewer(left, script, state.at);
     }
 }
@@ -31,6 +39,7 @@ fn main() {
     run(
         &space[..n],
         b"\xff\xee\xdd\xcc\xbb\xaa\x99\x88\x77\x66\x55\x44\x33\x22\x11\x00\xf0\xe0\xd0\xc0\xb0\xa0\x90\x80\x70\x60\x50\x40\x30\x20\x10\x00\x00",
+        &mut [0u8; 32],
         &mut [0u8; 65540],
         &mut [0u8; 65540],
         &mut [0u8; 65540],

@@ -1,38 +1,16 @@
--- Laws of blocks: 16 bytes as four words.
-use Prim.Native.Nat.{ℕ, zero, suc, _+_, _*_, _/_, _%_, _^_, _≤_, _<_}
-use mathlib.Core.Path.{_≡_, refl, sym, ap, _∙_}
+-- The rule of a record, on the four words of its block.
+use Prim.Native.Nat.{ℕ, _/_, _%_, _^_, _<_}
+use mathlib.Core.Path.{_≡_, sym}
 use mathlib.Core.Bool.{_&&_}
-use mathlib.Core.List.{List, [], _∷_, _++_}
-use native.Mathlib.Nat.{suc-mul, mod-eq-of-lt}
+use mathlib.Core.List.{List, [], _∷_}
+use native.Mathlib.Nat.{mod-eq-of-lt}
 use native.Mathlib.Omega.{arith}
 use lib.Dec.{eqb, leb, lit<}
-use lib.ListN.{length, getD, take, drop, length-drop, take-append-drop}
-use lib.Seq.{take-append-le, drop-append-le, length-take-le}
-use Rattle.clefia_spec.specs.Words.{fromDigits, toDigits, digitsOf, numbersOf, bytesOf, wordsOf, Below}
-use Rattle.clefia_laws.specs.DigitLaws.{from-to, digits-numbers, below-take}
+use lib.ListN.{length, getD}
+use Rattle.clefia_spec.specs.Words.{toDigits, digitsOf, bytesOf}
+use Rattle.clefia_laws.specs.DigitLaws.{from-to}
+use Rattle.clefia_laws.specs.BlockLaws.{word-back}
 use Rattle.planbook_spec.specs.Book.{number, trial, replicates, recordHolds}
-
--- Numbers that are written at the front of a row, whatever follows them.
-numbers-append : (b k n : ℕ) (xs ys : List ℕ) → length xs ≡ n * k → numbersOf b k n (xs ++ ys) ≡ numbersOf b k n xs
-unfolding numbersOf
-numbers-append b k zero xs ys e = refl
-numbers-append b k (suc n) xs ys e =
-    let m : length xs ≡ n * k + k = e ∙ suc-mul n k in
-    let fits : k ≤ length xs = omega arith in
-    rw (take-append-le k xs ys fits, drop-append-le k xs ys fits, numbers-append b k n (drop k xs) ys (length-drop k xs ∙ omega arith))
-
--- The four words of the first block, and its bytes.
-pub words-at : (bs : List ℕ) → 16 ≤ length bs → wordsOf 4 (take 16 bs) ≡ wordsOf 4 bs
-words-at bs h =
-    sym (numbers-append 256 4 4 (take 16 bs) (drop 16 bs) (length-take-le 16 bs h)) ∙ ap (wordsOf 4) (take-append-drop 16 bs)
-
-pub block-at : (bs : List ℕ) → Below 256 bs → 16 ≤ length bs → bytesOf (wordsOf 4 bs) ≡ take 16 bs
-block-at bs r h =
-    ap bytesOf (sym (words-at bs h)) ∙ digits-numbers (lit< tt) 4 4 (take 16 bs) (below-take 16 r) (length-take-le 16 bs h)
-
--- The rule of a record, on its four words.
-word-back : (x : ℕ) → x < 2 ^ 32 → fromDigits 256 (toDigits 256 4 x) ≡ x
-word-back x h = from-to (lit< tt) 4 x ∙ mod-eq-of-lt h
 
 byte-high : (x : ℕ) → x < 2 ^ 32 → x / 256 ^ 3 % 256 ≡ x / 16777216
 byte-high x h = mod-eq-of-lt (omega arith)

@@ -2,6 +2,7 @@
 ghost use Rattle.planbook_spec.specs.Outcome.{Answers};
 ghost use Rattle.planbook_spec.specs.Checks.{constantsCall, expandKeyCall, encryptBlockCall, decryptBlockCall};
 ghost use Rattle.planbook_spec.specs.Book.{encryptBookCall, decryptBookCall};
+ghost use Rattle.planbook_spec.specs.Note.{cryptNoteCall};
 use tasks::Task;
 
 #[no_mangle]
@@ -44,4 +45,18 @@ pub extern "C" fn planbook_decrypt_book(key: &[u8], way: u64, book: &[u8], out: 
     ensures { λ r. ⌜ Answers (decryptBookCall (now (key .entry)) way (now (book .entry)) (now (out .entry))) (now (out .entry)) r (now (out .exit)) ⌝ }
 {
     answer::number(calls::keyed_call(Task::DecryptBook, key, way, &[], book, out))
+}
+
+// One call for both directions.
+#[no_mangle]
+pub extern "C" fn planbook_crypt_note(
+    key: &[u8],
+    way: u64,
+    counter: &[u8],
+    note: &[u8],
+    out: &mut [u8],
+) -> u64
+    ensures { λ r. ⌜ Answers (cryptNoteCall (now (key .entry)) way (now (counter .entry)) (now (note .entry)) (now (out .entry))) (now (out .entry)) r (now (out .exit)) ⌝ }
+{
+    answer::number(calls::keyed_call(Task::CryptNote, key, way, counter, note, out))
 }

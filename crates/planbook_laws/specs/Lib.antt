@@ -3,6 +3,7 @@ pub mod Undoing
 pub mod BookLaws
 pub mod BookCipher
 pub mod Demands
+pub mod NoteLaws
 pub mod OutputLengths
 pub mod PastSeasons
 pub mod Received

@@ -5,6 +5,7 @@ use mathlib.Core.Path.{_≡_, sym, ap, _∙_}
 use native.Mathlib.Nat.{mul-comm}
 use lib.ListN.{length}
 use Rattle.clefia_spec.specs.Words.{KeyLength, Below, bytesOf}
+use Rattle.clefia_spec.specs.Block.{encrypt}
 use Rattle.clefia_laws.specs.RowLaws.{Bytes, Undone}
 use Rattle.clefia_laws.specs.DigitLaws.{length-digitsOf}
 use Rattle.clefia_laws.specs.KeyLaws.{length-constants, length-expandKey}
@@ -13,8 +14,10 @@ use Rattle.planbook_spec.specs.OutcomeLaws.{pass-tail, passed}
 use Rattle.planbook_spec.specs.Checks.{keyAndWay, constantCount, expandedCount, constantsCall, expandKeyCall, blockChecks, encryptBlockCall, decryptBlockCall}
 use Rattle.planbook_laws.specs.CheckLaws.{key-permitted, output-size, block-size}
 use Rattle.planbook_spec.specs.Book.{encryptBookCall, decryptBookCall}
+use Rattle.planbook_spec.specs.Note.{cryptNoteBy, cryptNoteCall}
 use Rattle.planbook_laws.specs.BookCipher.{encrypted-length, decrypted-length}
 use Rattle.planbook_laws.specs.Demands.{cipher, encryptBook-key, decryptBook-key}
+use Rattle.planbook_laws.specs.NoteLaws.{length-ctr, note-passed}
 
 -- The bytes of n words.
 words-length : (ws : List ℕ) (n : ℕ) → length ws ≡ n → length (bytesOf ws) ≡ 4 * n
@@ -58,3 +61,9 @@ module _ (key : List ℕ) (way : ℕ) (book out : List ℕ) {n : ℕ} {bs : List
   pub decryptBook-length : decryptBookCall key way book out ≡ accepted n bs → length bs ≡ length out
   unfolding decryptBookCall
   decryptBook-length a = decrypted-length _ _ (cipher (decryptBook-key key way book out a) bytes) _ book out below a
+
+pub cryptNote-length : (key : List ℕ) (way : ℕ) (counter note out : List ℕ) {n : ℕ} {bs : List ℕ} → cryptNoteCall key way counter note out ≡ accepted n bs → length bs ≡ length out
+unfolding cryptNoteCall cryptNoteBy
+cryptNote-length key way counter note out a =
+    let p = passed _ _ _ a in
+    ap length (sym (p .sameBytes)) ∙ length-ctr (encrypt key) counter note ∙ sym (note-passed (keyAndWay key way) counter note out (p .checks) .room)

@@ -3,7 +3,7 @@
 use Prim.Native.Nat.{ℕ, _*_, _/_, _^_, _≤_, _<_}
 use mathlib.Core.Bool.{Bool, true, false, _&&_}
 use mathlib.Core.List.{List, [], _∷_}
-use mathlib.Core.Logic.{_⊎_, inl, inr, ⊎-elim}
+use mathlib.Core.Logic.{_↔_, _⊎_, inl, inr, ⊎-elim}
 use mathlib.Core.Path.{_≡_, refl, sym, ap, subst}
 use native.Mathlib.Omega.{arith}
 use borrow.Author.Tests.{leb-true}
@@ -17,13 +17,19 @@ use Rattle.planbook_spec.specs.OutcomeLaws.{AllPass, none, more, answers-equal,
 use Rattle.planbook_spec.specs.Checks.{keyCheck, wayCheck, blockCheck, outputCheck, keyAndWay, constantCount, expandedCount, constantsCall, expandKeyCall, blockChecks, encryptBlockCall, decryptBlockCall}
 use Rattle.planbook_laws.specs.CheckLaws.{Way}
 use Rattle.planbook_spec.specs.Book.{formChecks, recordsCheck, asItIs, decryptBody, bookChecks, encryptBookBy, decryptBookBy, encryptBookCall, decryptBookCall}
+use Rattle.planbook_spec.specs.Note.{noteCheck, noteChecks, cryptNoteBy, cryptNoteCall}
 use Rattle.planbook_laws.specs.BookLaws.{formed-count}
 use Rattle.planbook_laws.specs.BookCipher.{book-formed}
 use Rattle.planbook_laws.specs.Demands.{demand2-decrypts, demand2-encrypts, demand2-block-decrypts, demand2-block-encrypts, EncryptedAlike, demand3}
+use Rattle.planbook_laws.specs.NoteLaws.{note-passed, note-comes-back, notes-alike}
 
--- An outcome whose number can be read: a check is one of the eleven, and a count is below 2 ^ 32.
+-- The highest number of a check.
+abbrev pub lastCheck : ℕ
+lastCheck = 12
+
+-- An outcome whose number can be read: a check is one of those that there are, and a count is below 2 ^ 32.
 pub data Readable : Outcome → Type 0 where
-  refusal : {c : ℕ} → 1 ≤ c → c ≤ 11 → Readable (refused c)
+  refusal : {c : ℕ} → 1 ≤ c → c ≤ lastCheck → Readable (refused c)
   acceptance : {n : ℕ} {bs : List ℕ} → n < 2 ^ 32 → Readable (accepted n bs)
 
 -- ---- what r and exit tell, whatever the call
@@ -32,7 +38,7 @@ pub data Readable : Outcome → Type 0 where
 pub record Refusal (o : Outcome) (out : List ℕ) (r : ℕ) (exit : List ℕ) : Type 0 where
   pub outcome : o ≡ refused (r / 2 ^ 32)
   pub least : 1 ≤ r / 2 ^ 32
-  pub most : r / 2 ^ 32 ≤ 11
+  pub most : r / 2 ^ 32 ≤ lastCheck
   pub number : r ≡ r / 2 ^ 32 * 2 ^ 32
   pub untouched : exit ≡ out
 
@@ -60,18 +66,18 @@ told {out = out} e a = answers-equal a (record { number = sym (ap answer e); out
 
 -- ---- every call's outcome can be read
 
--- Every check of a list has one of the eleven numbers: a test that computes, whichever of them pass.
+-- Every check of a list has one of the numbers 1 to the last: a test that computes, whichever of them pass.
 unfoldable numbered : List Check → Bool
 numbered [] = true
-numbered (check c b ∷ cs) = leb 1 c && leb c 11 && numbered cs
+numbered (check c b ∷ cs) = leb 1 c && leb c lastCheck && numbered cs
 
 readable : (cs : List Check) (n : ℕ) (bs : List ℕ) → numbered cs ≡ true → (AllPass cs → n < 2 ^ 32) → Readable (judged cs (accepted n bs))
 unfolding judged numbered
 readable [] n bs e f = acceptance (f none)
-readable (check c true ∷ cs) n bs e f = readable cs n bs (both-true (leb 1 c && leb c 11) _ e .1) (λ p. f (more p))
+readable (check c true ∷ cs) n bs e f = readable cs n bs (both-true (leb 1 c && leb c lastCheck) _ e .1) (λ p. f (more p))
 readable (check c false ∷ cs) n bs e f =
-    let h : (leb 1 c ≡ true) × (leb c 11 ≡ true) = both-true (leb 1 c) (leb c 11) (both-true (leb 1 c && leb c 11) (numbered cs) e .0) in
-    refusal (leb-true 1 c (h .0)) (leb-true c 11 (h .1))
+    let h : (leb 1 c ≡ true) × (leb c lastCheck ≡ true) = both-true (leb 1 c) (leb c lastCheck) (both-true (leb 1 c && leb c lastCheck) (numbered cs) e .0) in
+    refusal (leb-true 1 c (h .0)) (leb-true c lastCheck (h .1))
 
 numbered-book : (key : List ℕ) (way mark : ℕ) (f : List ℕ → List ℕ → List ℕ) (book out : List ℕ) → numbered (bookChecks (keyAndWay key way) mark f book out) ≡ true
 unfolding bookChecks formChecks recordsCheck keyCheck wayCheck outputCheck numbered
@@ -109,6 +115,10 @@ module _ (key : List ℕ) (way : ℕ) where
   unfolding decryptBookCall decryptBookBy
   readable-decryptBook book out = readable (bookChecks (keyAndWay key way) 2 (decryptBody (decrypt key)) book out) _ _ (numbered-book key way _ _ book out) (λ p. formed-count (book-formed _ _ _ book out p))
 
+  pub readable-cryptNote : (counter note out : List ℕ) → Readable (cryptNoteCall key way counter note out)
+  unfolding cryptNoteCall cryptNoteBy noteChecks keyCheck wayCheck blockCheck outputCheck noteCheck numbered
+  readable-cryptNote counter note out = readable _ _ _ refl (λ p. let s : length note ≤ 16384 = note-passed (keyAndWay key way) counter note out p .short in omega arith)
+
 -- ---- demand 2: where the first number is below 2 ^ 32, the other call gives the number and the bytes back
 
 module _ (key : List ℕ) (bytes : Below 256 key) (way way′ : ℕ) (permitted : Way way′) (src out out′ : List ℕ) (below : Below 256 src) {r r′ : ℕ} {exit exit′ : List ℕ} (small : r < 2 ^ 32) where
@@ -130,6 +140,9 @@ module _ (key : List ℕ) (bytes : Below 256 key) (way way′ : ℕ) (permitted 
 
 -- ---- demand 3: the two lent outputs at exit, where both numbers are below 2 ^ 32
 
+accepted-outcome : {o : Outcome} {n : ℕ} {bs : List ℕ} → o ≡ accepted n bs → Accepted o
+accepted-outcome e = subst Accepted (sym e) (accepting _ _)
+
 pub demand3-received : (key : List ℕ) → Below 256 key → (way way′ : ℕ) (a b out out′ : List ℕ) → Below 256 a → Below 256 b → {r r′ : ℕ} {x y : List ℕ}
     → Answers (encryptBookCall key way a out) out r x → r < 2 ^ 32
     → Answers (encryptBookCall key way′ b out′) out′ r′ y → r′ < 2 ^ 32 → EncryptedAlike key a b x y
@@ -138,6 +151,18 @@ demand3-received key bytes way way′ a b out out′ ra rb pa ha pb hb =
     (demand3 key bytes way way′ a b out out′ ra rb
     (accepted-outcome (accepts (readable-encryptBook key way a out) pa ha))
     (accepted-outcome (accepts (readable-encryptBook key way′ b out′) pb hb)))
-  where
-    accepted-outcome : {o : Outcome} {n : ℕ} {bs : List ℕ} → o ≡ accepted n bs → Accepted o
-    accepted-outcome e = subst Accepted (sym e) (accepting _ _)
+
+-- ---- notes: what the call has made of one comes back, and two under one key and one first counter block are equal exactly where their texts are
+
+module _ (key : List ℕ) (way way′ : ℕ) (counter : List ℕ) {r r′ : ℕ} {x y : List ℕ} where
+  pub note-comes-back-received : Way way′ → (note out out′ : List ℕ) → Answers (cryptNoteCall key way counter note out) out r x → r < 2 ^ 32 → length out′ ≡ length note
+      → Answers (cryptNoteCall key way′ counter x out′) out′ r′ y → (r′ ≡ r) × (y ≡ note)
+  note-comes-back-received permitted note out out′ a h e = told (note-comes-back key way way′ counter permitted note out out′ (accepts (readable-cryptNote key way counter note out) a h) e)
+
+  pub notes-alike-received : (a b out out′ : List ℕ) → Answers (cryptNoteCall key way counter a out) out r x → r < 2 ^ 32
+      → Answers (cryptNoteCall key way′ counter b out′) out′ r′ y → r′ < 2 ^ 32 → (x ≡ y) ↔ (a ≡ b)
+  notes-alike-received a b out out′ pa ha pb hb =
+      rw (pa .output, pb .output)
+      (notes-alike key way way′ counter a b out out′
+      (accepted-outcome (accepts (readable-cryptNote key way counter a out) pa ha))
+      (accepted-outcome (accepts (readable-cryptNote key way′ counter b out′) pb hb)))

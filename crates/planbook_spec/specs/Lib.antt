@@ -3,4 +3,6 @@ pub mod MarkedCases
 pub mod Outcome
 pub mod Checks
 pub mod Book
+pub mod Note
+pub mod NoteCases
 pub mod OutcomeLaws

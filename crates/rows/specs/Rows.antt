@@ -1,12 +1,13 @@
 -- Rows of a known length, and four elements that stand or are put at a place of a row.
-use Prim.Native.Nat.{ℕ, zero, suc, _+_, _*_, _≤_, _<_}
+use Prim.Native.Nat.{ℕ, zero, suc, _+_, _-_, _*_, _≤_, _<_}
 use mathlib.Core.Path.{_≡_, refl, sym, _∙_, ap}
 use mathlib.Core.List.{List, [], _∷_, _++_, append-assoc, append-nil}
 use native.Mathlib.Nat.{add-assoc, mul-add}
 use native.Mathlib.Numerals.{add-one, towards-suc}
 use native.Mathlib.Omega.{arith}
+use borrow.Rule.Slice.PartMut.{putMid, same-len-mid, mid-len}
 use lib.ListN.{length, getD, set, take, drop, length-append, length-take, length-drop}
-use lib.Seq.{sets-eq, take-all, take-at, drop-cons, drop-drop, length-take-le}
+use lib.Seq.{sets-eq, take-all, take-at, take-suc, take-suc-set, drop-cons, drop-drop, length-take-le}
 use Rattle.clefia_spec.specs.Words.{fromDigits, toDigits, digitsOf, numbersOf, bytesOf, wordsOf, fourAt}
 
 -- The first n elements of a row, each written out.
@@ -60,6 +61,24 @@ fill-four s i p rest whole e h w = rw (take-putFour s i p e h, append-assoc) w
 
 pub fill-end : (s : List ℕ) (i : ℕ) (whole : List ℕ) → length s ≤ i → take i s ++ [] ≡ whole → s ≡ whole
 fill-end s i whole h w = sym (take-all i s h) ∙ sym (append-nil (take i s)) ∙ w
+
+-- The same one by one.
+pub fill-one : (i : ℕ) (s whole : List ℕ) → i < length s → i < length whole → take i s ≡ take i whole → take (i + 1) (set s i (getD whole i 0)) ≡ take (i + 1) whole
+fill-one i s whole h k e =
+    rw add-one (take-suc-set s i (getD whole i 0) h ∙ ap (λ (l : List ℕ). l ++ (getD whole i 0 ∷ [])) e ∙ sym (take-suc whole i 0 k))
+
+-- The same for a part of any length, as it comes back from a call that filled it: what stands before its end.
+pub fill-part : (at n : ℕ) (out part rest : List ℕ) {whole : List ℕ} → length part ≡ n → at + n ≤ length out
+    → take at out ++ (part ++ rest) ≡ whole → take (at + n) (putMid at (at + n - at) out part) ++ rest ≡ whole
+fill-part at n out part rest {whole} l h e =
+    let front : length (take at out ++ part) ≡ at + n = length-append (take at out) part ∙ omega (arith, length-take-le at out (omega arith)) in
+    ap (λ (x : List ℕ). take (at + n) x ++ rest) (sym (append-assoc (take at out) part _))
+    ∙ ap (λ (x : List ℕ). x ++ rest) (take-at (take at out ++ part) _ (at + n) front)
+    ∙ append-assoc (take at out) part rest ∙ e
+
+pub length-part : (at n : ℕ) (out part : List ℕ) → length part ≡ n → at + n ≤ length out → length (putMid at (at + n - at) out part) ≡ length out
+length-part at n out part l h =
+    same-len-mid at (at + n - at) out part (l ∙ sym (mid-len at (at + n) out h ∙ omega arith))
 
 -- The bytes of a row from place i on: those of the word there, and of the rest.
 pub bytes-step : (s : List ℕ) (i : ℕ) → i < length s → bytesOf (drop i s) ≡ toDigits 256 4 (getD s i 0) ++ bytesOf (drop (i + 1) s)

@@ -1,4 +1,4 @@
-// Clear books for the cases to start from. Places past a book's end are left out, so that a book can be made too short.
+// Clear books and counter blocks for the cases to start from. Places past a book's end are left out, so that a book can be made too short.
 
 pub fn put(book: &mut [u8], at: usize, value: u8) {
     if at < book.len() {
@@ -86,6 +86,25 @@ pub fn write_book(book: &mut [u8], first: usize, sheets: usize, each: usize, las
     let mut i = 0;
     while i < book.len() {
         book[i] = byte_of(word(first, sheets, each, last, i / 4), i % 4);
+        i += 1;
+    }
+}
+
+// A byte of a counter block: twelve that count up from first, and the number in four. Past them it is 0.
+fn counter_byte(first: usize, number: usize, place: usize) -> u8 {
+    if place < 12 {
+        return ((first % 256 + place) % 256) as u8;
+    }
+    if place < 16 {
+        return byte_of(number, place - 12);
+    }
+    0
+}
+
+pub fn write_counter(block: &mut [u8], first: usize, number: usize) {
+    let mut i = 0;
+    while i < block.len() {
+        block[i] = counter_byte(first, number, i);
         i += 1;
     }
 }

@@ -11,6 +11,7 @@ use sample_books::exchange;
 use sample_books::flip;
 use sample_books::put;
 use sample_books::write_book;
+use sample_books::write_counter;
 
 // Commands 14 to 16, which change the book.
 fn edit(command: Command, book: &mut [u8]) {
@@ -70,12 +71,19 @@ fn tell(command: Command, script: &[u8], state: State, book: &[u8], kept: &[u8],
             let b = within(state.length, book);
             say_words(&book[..b]);
         }
-        23 => say_unknown(script, command.from, command.end),
+        25 => say_unknown(script, command.from, command.end),
         _ => (),
     }
 }
 
-// Any command but the exported calls, at which it does nothing.
+// Command 24, which makes the counter block of a note.
+pub fn make_counter(command: Command, counter: &mut [u8]) {
+    if command.number == 24 {
+        write_counter(counter, command.second, command.third);
+    }
+}
+
+// Any other command but the exported calls, at which it does nothing.
 pub fn run(
     command: Command,
     script: &[u8],

@@ -8,6 +8,7 @@ pub struct State {
     pub way: usize,
     pub size: usize,
     pub length: usize,
+    pub counter: usize,
     // Where the text of the last 'case' stands in the script.
     pub case: usize,
     pub case_end: usize,
@@ -24,6 +25,7 @@ impl State {
             way: 0,
             size: 0,
             length: 0,
+            counter: 0,
             case: 0,
             case_end: 0,
             mark: 0,
@@ -59,6 +61,7 @@ impl State {
                 self.size = command.fifth;
             }
             22 => return self.again(),
+            24 => self.counter = command.first,
             _ => (),
         }
         self

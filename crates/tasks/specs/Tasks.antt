@@ -11,17 +11,19 @@ use Rattle.planbook_spec.specs.Outcome.{Outcome, accepted, judged}
 use Rattle.planbook_spec.specs.OutcomeLaws.{judged-append}
 use Rattle.planbook_spec.specs.Checks.{keyAndWay, outputCheck, expandedCount, expandKeyCall, blockChecks, encryptBlockCall, decryptBlockCall}
 use Rattle.planbook_spec.specs.Book.{bookChecks, encryptBookBy, decryptBookBy, encryptBookCall, decryptBookCall}
+use Rattle.planbook_spec.specs.Note.{noteChecks, cryptNoteBy, cryptNoteCall}
 use Rattle.checks.specs.Under.{codedUnder, blockUnder}
 use Rattle.tasks.specs.declared.Task.{Task}
-use Rattle.tasks.specs.declared.Task.the-variants.{ExpandKey, EncryptBlock, DecryptBlock, EncryptBook, DecryptBook}
+use Rattle.tasks.specs.declared.Task.the-variants.{ExpandKey, EncryptBlock, DecryptBlock, EncryptBook, DecryptBook, CryptNote}
 
--- What a task answers under n expanded words w. No task reads the iv yet.
+-- What a task answers under n expanded words w. The iv is read for a note alone: it is its first counter block.
 unfoldable pub under : Task → ℕ → List ℕ → List ℕ → List ℕ → List ℕ → Outcome
 under ExpandKey n w iv src out = judged (outputCheck (4 * n) out ∷ []) (accepted n (bytesOf w))
 under EncryptBlock n w iv src out = blockUnder false w src out
 under DecryptBlock n w iv src out = blockUnder true w src out
 under EncryptBook n w iv src out = encryptBookBy [] (encryptUnder w) src out
 under DecryptBook n w iv src out = decryptBookBy [] (decryptUnder w) src out
+under CryptNote n w iv src out = cryptNoteBy [] (encryptUnder w) iv src out
 
 -- Under a key.
 unfoldable pub performed : Task → List ℕ → List ℕ → List ℕ → List ℕ → Outcome
@@ -50,3 +52,7 @@ encrypt-book-keyed key way book out = judged-append (keyAndWay key way) _ _
 pub decrypt-book-keyed : (key : List ℕ) (way : ℕ) (book out : List ℕ) → decryptBookCall key way book out ≡ keyedCall DecryptBook key way [] book out
 unfolding decryptBookCall decrypt keyedCall performed under decryptBookBy bookChecks
 decrypt-book-keyed key way book out = judged-append (keyAndWay key way) _ _
+
+pub crypt-note-keyed : (key : List ℕ) (way : ℕ) (counter note out : List ℕ) → cryptNoteCall key way counter note out ≡ keyedCall CryptNote key way counter note out
+unfolding cryptNoteCall encrypt keyedCall performed under cryptNoteBy noteChecks
+crypt-note-keyed key way counter note out = judged-append (keyAndWay key way) _ _

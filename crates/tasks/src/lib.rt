@@ -14,10 +14,11 @@ pub enum Task {
     DecryptBlock,
     EncryptBook,
     DecryptBook,
+    CryptNote,
 }
 
-// The key expanded into w, and the task done under it. `iv` is the block that a mode of operation starts from, where it is lent beside the input: a
-// book has its own in its contents, so no task reads it yet.
+// The key expanded into w, and the task done under it. `iv` is the block that a mode of operation starts from, where it is lent beside the input: the
+// counter block of a note. A book has its own in its contents.
 pub fn perform(
     task: Task,
     words: &[[u32; 256]],
@@ -43,5 +44,6 @@ pub fn perform(
         Task::DecryptBlock => checks::code_block(true, ws, bs, w, src, out),
         Task::EncryptBook => book::encrypt_book(ws, bs, w, src, out),
         Task::DecryptBook => book::decrypt_book(ws, bs, w, src, out),
+        Task::CryptNote => note::crypt_note(ws, bs, w, iv, src, out),
     }
 }

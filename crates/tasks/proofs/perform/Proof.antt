@@ -83,10 +83,19 @@ returns-5 c =
     let a : tie.After-decrypt-book = c .before .before in
     finished (a .before .before .before .before .before .before .before) (a .before .before .before .enum-told5 .given .1) (a .decrypt-book .ensures)
 
+crypt-note-requires : tie.Need-crypt-note-requires
+crypt-note-requires c κs = ready (c .before .before .before .before .before .before)
+
+returns-6 : tie.Need-returns-6
+unfolding under
+returns-6 c =
+    let a : tie.After-crypt-note = c .before .before in
+    finished (a .before .before .before .before .before .before .before) (a .before .before .before .enum-told6 .given .1) (a .crypt-note .ensures)
+
 pub perform-spec : {M : Type 1} → statement M
 perform-spec =
     tie.close
     (tie.spec (λ c κs. search needs) (λ c. search needs) write-words-requires (λ c. search needs) code-block-requires (λ c. search needs)
-    code-block-requires-2 (λ c. search needs) encrypt-book-requires (λ c. search needs) decrypt-book-requires (λ c. search needs)
+    code-block-requires-2 (λ c. search needs) encrypt-book-requires (λ c. search needs) decrypt-book-requires (λ c. search needs) crypt-note-requires (λ c. search needs)
     (λ c. search needs) returns (λ c. search needs) (λ c. search needs) returns-2 (λ c. search needs) (λ c. search needs) returns-3
-    (λ c. search needs) (λ c. search needs) returns-4 (λ c. search needs) (λ c. search needs) returns-5)
+    (λ c. search needs) (λ c. search needs) returns-4 (λ c. search needs) (λ c. search needs) returns-5 (λ c. search needs) (λ c. search needs) returns-6)

@@ -1,20 +1,15 @@
 -- `bodies::front::copy_front` meets its contract: what stands before `i` has been copied.
-use Prim.Native.Nat.{ℕ, _+_, _-_, _*_, _≤_, _<_}
-use mathlib.Core.Path.{_≡_, refl, sym, ap, _∙_}
-use mathlib.Core.List.{List, [], _∷_, _++_}
+use Prim.Native.Nat.{ℕ, _+_, _-_, _*_, _≤_}
+use mathlib.Core.Path.{_≡_, refl, ap, _∙_}
+use mathlib.Core.List.{List}
 use native.Mathlib.Omega.{arith}
-use native.Mathlib.Numerals.{add-one}
 use borrow.Author.Needs.{needs}
-use lib.ListN.{length, take, getD, set, length-set}
-use lib.Seq.{take-suc, take-suc-set, take-set-lt}
+use lib.ListN.{length, take, set, length-set}
+use lib.Seq.{take-set-lt}
 use Rattle.planbook_spec.specs.Book.{sheetCount}
+use Rattle.rows.specs.Rows.{fill-one}
 use Rattle.bodies.proofs.front.copy_front.Statement.{statement}
 use Rattle.bodies.proofs.front.copy_front.Tie as tie
-
-one-more : (i : ℕ) (out book : List ℕ) → i < length out → i < length book → take i out ≡ take i book
-    → take (i + 1) (set out i (getD book i 0)) ≡ take (i + 1) book
-one-more i out book h k e =
-    rw add-one (take-suc-set out i (getD book i 0) h ∙ ap (λ (l : List ℕ). l ++ (getD book i 0 ∷ [])) e ∙ sym (take-suc book i 0 k))
 
 abbrev Inv-loop : tie.InvT-loop
 Inv-loop mark book out₀ end i₀ out i = (end ≡ 4 + 24 * sheetCount book) × (i ≤ end) × (length out ≡ length out₀) × (take i out ≡ take i book)
@@ -31,7 +26,7 @@ loop-again c =
       a .loop .inv .0,
       search needs,
       simp length-set (a .loop .inv .2),
-      one-more (a .loop .i) (a .loop .out) (a .before .before .before .before .args .book .now) (search needs) (search needs) (a .loop .inv .3),
+      fill-one (a .loop .i) (a .loop .out) (a .before .before .before .before .args .book .now) (search needs) (search needs) (a .loop .inv .3),
     )
 
 returns : tie.Need-returns Inv-loop μ-loop

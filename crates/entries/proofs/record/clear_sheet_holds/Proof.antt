@@ -3,6 +3,7 @@ use mathlib.Core.List.{List}
 use native.Mathlib.Omega.{arith}
 use borrow.Author.Tests.{not-true, not-false}
 use Rattle.clefia_spec.specs.Words.{bytesOf, Below}
+use Rattle.clefia_laws.specs.BlockLaws.{block-at}
 use Rattle.clefia_laws.specs.DigitLaws.{below-all, below-drop}
 use Rattle.entries.specs.Entry.{sheetOf}
 use Prim.Native.Nat.{ℕ, _+_, _*_, _≤_}
@@ -11,7 +12,6 @@ use borrow.Author.Needs.{needs}
 use lib.ListN.{length, take, drop, length-drop}
 use Rattle.planbook_spec.specs.Book.{count, pieces, recordHolds, allRecordsHold, sheetHolds}
 use Rattle.planbook_laws.specs.WalkLaws.{records-next}
-use Rattle.entries.specs.Blocks.{block-at}
 use Rattle.entries.proofs.record.clear_sheet_holds.Statement.{statement}
 use Rattle.entries.proofs.record.clear_sheet_holds.Tie as tie
 

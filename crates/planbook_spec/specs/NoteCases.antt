@@ -1,0 +1,80 @@
+-- Notes under the toy cipher of AnswerCases, worked out by hand, and the edges of the call's checks: computed lists. That a note comes back sees no slip in
+-- the counter, since both directions share it; these cases do.
+use Prim.Native.Nat.{ℕ, _*_, _^_}
+use mathlib.Core.List.{List, [], _∷_, _++_}
+use mathlib.Core.Path.{refl}
+use lib.ListN.{take, replicate}
+use Rattle.clefia_spec.specs.Words.{fromDigits, toDigits, xors}
+use Rattle.clefia_spec.specs.Cases.{Case, _gives_, AllHold, allSame, computed}
+use Rattle.planbook_spec.specs.Outcome.{answer, after, judged}
+use Rattle.planbook_spec.specs.Checks.{keyCheck, wayCheck, blockCheck, outputCheck}
+use Rattle.planbook_spec.specs.Book.{number}
+use Rattle.planbook_spec.specs.Note.{counterBlock, keystream, blockCount, ctr, noteCheck, noteChecks, cryptNoteBy, cryptNoteCall}
+use Rattle.planbook_spec.specs.AnswerCases.{toyEncrypt, rising}
+
+-- The first twelve bytes of a counter block, and the block that counts on from a number.
+abbrev pub prefix : List ℕ
+prefix = rising 12 0x10
+
+abbrev pub counterFrom : ℕ → List ℕ
+counterFrom n = prefix ++ toDigits 256 4 n
+
+-- A note of 33 bytes, and what it is encrypted to from the last number on: its three counter blocks count ffffffff, 0 and 1. The toy has each rotated by
+-- one place, so that its first byte, 10, comes last.
+abbrev pub text : List ℕ
+text = rising 33 0x80
+
+abbrev pub encryptedText : List ℕ
+encryptedText =
+    (0x91 ∷ 0x93 ∷ 0x91 ∷ 0x97 ∷ 0x91 ∷ 0x93 ∷ 0x91 ∷ 0x9f ∷ 0x91 ∷ 0x93 ∷ 0x91 ∷ 0x74 ∷ 0x73 ∷ 0x72 ∷ 0x71 ∷ 0x9f ∷ [])
+    ++ (0x81 ∷ 0x83 ∷ 0x81 ∷ 0x87 ∷ 0x81 ∷ 0x83 ∷ 0x81 ∷ 0x8f ∷ 0x81 ∷ 0x83 ∷ 0x81 ∷ 0x9b ∷ 0x9c ∷ 0x9d ∷ 0x9e ∷ 0x8f ∷ [])
+    ++ (0xb1 ∷ [])
+
+abbrev pub crypted : List ℕ → List ℕ
+crypted note = ctr toyEncrypt (counterFrom 0xffffffff) note
+
+pub noteCases : List Case
+noteCases =
+    -- counter blocks: the one that is given; after ffffffff zero, and the first twelve bytes as they were; the last byte runs over into the one before
+    (counterBlock (counterFrom 0xffffffff) 0 gives prefix ++ (0xff ∷ 0xff ∷ 0xff ∷ 0xff ∷ []))
+    ∷ (counterBlock (counterFrom 0xffffffff) 1 gives prefix ++ (0 ∷ 0 ∷ 0 ∷ 0 ∷ []))
+    ∷ (counterBlock (counterFrom 0xfffffffe) 3 gives prefix ++ (0 ∷ 0 ∷ 0 ∷ 1 ∷ []))
+    ∷ (counterBlock (replicate 12 0xff ++ (0xff ∷ 0xff ∷ 0xff ∷ 0xff ∷ [])) 1 gives replicate 12 0xff ++ (0 ∷ 0 ∷ 0 ∷ 0 ∷ []))
+    ∷ (counterBlock (counterFrom 0x010203ff) 1 gives prefix ++ (1 ∷ 2 ∷ 4 ∷ 0 ∷ []))
+    ∷ (counterBlock (counterFrom 0x01fffc01) 1023 gives prefix ++ (2 ∷ 0 ∷ 0 ∷ 0 ∷ []))
+    -- notes of 0, 1, 15, 16, 17 and 33 bytes
+    ∷ (crypted [] gives [])
+    ∷ (crypted (0x80 ∷ []) gives 0x91 ∷ [])
+    ∷ (crypted (take 15 text) gives take 15 encryptedText)
+    ∷ (crypted (take 16 text) gives take 16 encryptedText)
+    ∷ (crypted (take 17 text) gives take 17 encryptedText)
+    ∷ (crypted text gives encryptedText)
+    -- and back, through the call: the count is that of the bytes
+    ∷ (answer (cryptNoteBy [] toyEncrypt (counterFrom 0xffffffff) text text) ∷ after text (cryptNoteBy [] toyEncrypt (counterFrom 0xffffffff) text text)
+    gives 33 ∷ encryptedText)
+    ∷ (answer (cryptNoteBy [] toyEncrypt (counterFrom 0xffffffff) encryptedText text) ∷ after text (cryptNoteBy [] toyEncrypt (counterFrom 0xffffffff) encryptedText text)
+    gives 33 ∷ text)
+    ∷ []
+
+pub noteCases-hold : AllHold noteCases
+unfolding noteCases rising allSame fromDigits toDigits xors answer after judged blockCheck outputCheck number counterBlock keystream blockCount ctr noteCheck noteChecks cryptNoteBy
+noteCases-hold = computed noteCases refl
+
+-- The answer under a key of k bytes, by a way, with a counter block of c bytes, a note of n and an output of m.
+abbrev pub noted : ℕ → ℕ → ℕ → ℕ → ℕ → ℕ
+noted k way c n m = answer (cryptNoteCall (replicate k 0) way (replicate c 0) (replicate n 0) (replicate m 0))
+
+-- Checks 1, 2, 3, 4 and 12: each pair that can fail at once, the edges of each, and the counts.
+pub noteCheckCases : List Case
+noteCheckCases =
+    (noted 15 4 16 1 1 ∷ noted 17 1 15 1 1 ∷ noted 33 1 16 1 2 ∷ noted 0 1 16 16385 16385 ∷ [] gives 1 * 2 ^ 32 ∷ 1 * 2 ^ 32 ∷ 1 * 2 ^ 32 ∷ 1 * 2 ^ 32 ∷ [])
+    ∷ (noted 16 0 15 1 1 ∷ noted 24 4 16 1 2 ∷ noted 32 257 16 16385 16385 ∷ [] gives 2 * 2 ^ 32 ∷ 2 * 2 ^ 32 ∷ 2 * 2 ^ 32 ∷ [])
+    ∷ (noted 16 1 15 1 2 ∷ noted 16 2 17 16385 16385 ∷ noted 16 3 0 1 1 ∷ [] gives 3 * 2 ^ 32 ∷ 3 * 2 ^ 32 ∷ 3 * 2 ^ 32 ∷ [])
+    ∷ (noted 16 1 16 1 0 ∷ noted 16 2 16 1 2 ∷ noted 16 3 16 16385 16384 ∷ noted 16 3 16 16384 16385 ∷ [] gives 4 * 2 ^ 32 ∷ 4 * 2 ^ 32 ∷ 4 * 2 ^ 32 ∷ 4 * 2 ^ 32 ∷ [])
+    ∷ (noted 16 1 16 16385 16385 ∷ noted 24 2 16 16385 16385 ∷ noted 32 3 16 40000 40000 ∷ [] gives 12 * 2 ^ 32 ∷ 12 * 2 ^ 32 ∷ 12 * 2 ^ 32 ∷ [])
+    ∷ (noted 16 1 16 0 0 ∷ noted 24 2 16 17 17 ∷ noted 32 3 16 16384 16384 ∷ [] gives 0 ∷ 17 ∷ 16384 ∷ [])
+    ∷ []
+
+pub noteCheckCases-hold : AllHold noteCheckCases
+unfolding noteCheckCases allSame answer judged keyCheck wayCheck blockCheck outputCheck noteCheck noteChecks cryptNoteBy cryptNoteCall
+noteCheckCases-hold = computed noteCheckCases refl
