@@ -47,11 +47,13 @@ unsigned checks_of(call_kind kind)
     unsigned set = 1u << CHECK_KEY | 1u << CHECK_OUTPUT_LENGTH;
     if (kind != CALL_CONSTANTS)
         set |= 1u << CHECK_WAY;
-    if (call_is_block(kind))
+    if (call_is_block(kind) || kind == CALL_CRYPT_NOTE)
         set |= 1u << CHECK_BLOCK_LENGTH;
     if (call_is_book(kind))
         for (int check = CHECK_BOOK_LENGTH; check <= CHECK_RECORD; check++)
             set |= 1u << check;
+    if (kind == CALL_CRYPT_NOTE)
+        set |= 1u << CHECK_NOTE_LENGTH;
     return set;
 }
 
@@ -369,6 +371,39 @@ static void make_book(generator *g, unsigned damages, test_case *c)
     c->in.input_len = len;
 }
 
+/* Notes. */
+
+/* Often with bytes ff at its end, and the number then some blocks lower: it
+ * carries or wraps within the note, where a byte ff may stand before it. */
+static void make_counter(generator *g, size_t note_len, uint8_t counter[MAX_COUNTER])
+{
+    uint8_t *number = counter + COUNTER_PREFIX_LENGTH;
+    size_t high = random_chance(g, 2) ? 0 : random_between(g, 1, COUNTER_LENGTH);
+    uint32_t lower = (uint32_t)random_below(g, note_len / REFERENCE_BLOCK + 1);
+    random_fill(g, counter, MAX_COUNTER);
+    memset(counter + COUNTER_LENGTH - high, 0xff, high);
+    reference_store_word(number, reference_load_word(number) - lower);
+}
+
+static size_t note_length(generator *g, unsigned damages)
+{
+    uint64_t size = random_below(g, 1000);
+    if (has(damages, CHECK_NOTE_LENGTH))
+        return MAX_NOTE_LENGTH + 1 + (random_chance(g, 2) ? 0 : random_below(g, 20000));
+    if (size == 0)
+        return MAX_NOTE_LENGTH - random_below(g, 2);
+    return random_below(g, size < 30 ? 1000 : 100);
+}
+
+static void make_note(generator *g, unsigned damages, test_case *c)
+{
+    c->in.input_len = note_length(g, damages);
+    random_fill(g, c->input, c->in.input_len);
+    make_counter(g, c->in.input_len, c->counter);
+    c->in.counter = c->counter;
+    c->in.counter_len = has(damages, CHECK_BLOCK_LENGTH) ? wrong_block_length(g) : COUNTER_LENGTH;
+}
+
 void make_case(generator *g, call_kind kind, unsigned damages, test_case *c)
 {
     call_input *in = &c->in;
@@ -384,6 +419,8 @@ void make_case(generator *g, call_kind kind, unsigned damages, test_case *c)
     }
     if (call_is_book(kind))
         make_book(g, damages, c);
+    if (kind == CALL_CRYPT_NOTE)
+        make_note(g, damages, c);
     if (kind != CALL_CONSTANTS)
         in->key = c->key;
     if (has(damages, CHECK_WAY))
@@ -423,14 +460,16 @@ void make_random_case(generator *g, call_kind kind, test_case *c)
         in->way = random_below(g, 6);
     if (call_is_block(kind))
         in->input_len = random_between(g, 14, 18);
-    if (call_is_book(kind)) {
+    if (kind == CALL_CRYPT_NOTE)
+        in->counter_len = random_between(g, 14, 18);
+    if (call_keeps_length(kind)) {
         in->input_len = random_input_length(g);
         random_fill(g, c->input, in->input_len);
-        if (in->input_len >= HEAD_LENGTH && !random_chance(g, 4)) {
-            c->input[0] = (uint8_t)(kind == CALL_ENCRYPT_BOOK ? CLEAR_BOOK : SEALED_BOOK);
-            c->input[1] = 0;
-            put_half(c->input + 2, random_below(g, 4));
-        }
+    }
+    if (call_is_book(kind) && in->input_len >= HEAD_LENGTH && !random_chance(g, 4)) {
+        c->input[0] = (uint8_t)(kind == CALL_ENCRYPT_BOOK ? CLEAR_BOOK : SEALED_BOOK);
+        c->input[1] = 0;
+        put_half(c->input + 2, random_below(g, 4));
     }
     in->out_len = reference_output_length(in);
     if (random_chance(g, 8) || in->out_len == 0)

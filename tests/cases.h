@@ -19,14 +19,16 @@ void random_fill(generator *g, uint8_t *bytes, size_t len);
 
 enum {
     MAX_KEY = 64,
+    MAX_COUNTER = 64,
     MAX_INPUT = 100000,
     MAX_OUTPUT = MAX_INPUT + 64,
     MAX_TEST_SHEETS = 96
 };
 
 typedef struct {
-    call_input in; /* points into key and input */
+    call_input in; /* points into key, counter and input */
     uint8_t key[MAX_KEY];
+    uint8_t counter[MAX_COUNTER];
     uint8_t input[MAX_INPUT];
 } test_case;
 

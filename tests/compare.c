@@ -54,15 +54,22 @@ void fail(const char *format, ...)
     exit(1);
 }
 
+void describe_call(const call_input *in, char *text, size_t len)
+{
+    snprintf(text, len,
+             "%s (key %" PRIu64 " bytes, way %" PRIu64 ", counter block %zu bytes, input %zu bytes, output %zu bytes)",
+             call_name(in->kind), in->key_len, in->way, in->counter_len, in->input_len, in->out_len);
+}
+
 void fail_call(const call_input *in, const char *what, const char *how, ...)
 {
-    char text[200];
+    char call[200], text[200];
     va_list arguments;
     va_start(arguments, how);
     vsnprintf(text, sizeof text, how, arguments);
     va_end(arguments);
-    fail("%s: %s (key %" PRIu64 " bytes, way %" PRIu64 ", input %zu bytes, output %zu bytes): %s", what,
-         call_name(in->kind), in->key_len, in->way, in->input_len, in->out_len, text);
+    describe_call(in, call, sizeof call);
+    fail("%s: %s: %s", what, call, text);
 }
 
 void fail_answer(const call_input *in, const char *what, uint64_t answer, uint64_t expected)
@@ -126,11 +133,13 @@ static void make_call(const call_input *in, uint64_t expected, const char *what)
 {
     size_t key_len = in->kind == CALL_CONSTANTS ? 0 : in->key_len;
     uint8_t *key = lend(in->key, key_len);
+    uint8_t *counter = lend(in->counter, in->counter_len);
     uint8_t *input = lend(in->input, in->input_len);
     call_input lent = *in;
     uint64_t answer;
     memcpy(lent_output, output_before, FENCE + in->out_len + FENCE);
     lent.key = key;
+    lent.counter = counter;
     lent.input = input;
     answer = library_call(&lent, lent_output + FENCE);
     if (answer != expected)
@@ -138,9 +147,12 @@ static void make_call(const call_input *in, uint64_t expected, const char *what)
     compare_output(in, what);
     if (key_len > 0 && memcmp(key, in->key, key_len) != 0)
         fail_call(in, what, "the key was changed");
+    if (in->counter_len > 0 && memcmp(counter, in->counter, in->counter_len) != 0)
+        fail_call(in, what, "the counter block was changed");
     if (in->input_len > 0 && memcmp(input, in->input, in->input_len) != 0)
         fail_call(in, what, "the input was changed");
     free(key);
+    free(counter);
     free(input);
 }
 

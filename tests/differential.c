@@ -15,9 +15,9 @@
 
 enum {
     BLOCK_CASES = 100000,   /* for each key length */
-    ROUND_TRIP_BOOKS = 300, /* for each key length */
+    ROUND_TRIPS = 300,      /* of books and of notes, for each key length */
     INPUT_CASES = 200000,   /* for each call */
-    LEAST_ANSWERS = 1000,   /* for each check of each call */
+    LEAST_ANSWERS = 1000,   /* for each check of each call, and of notes in which the number wraps */
     PAIR_TRIES = 2000       /* to make two checks fail together */
 };
 
@@ -69,6 +69,29 @@ static void check_vectors(void)
            KEY_LENGTHS, WAYS);
 }
 
+/* The library against the reference by each way, and then what it wrote against the bytes written down. */
+static void check_note_vector(const paper_vector *key, const note_vector *v, const uint8_t *sealed)
+{
+    size_t len = strlen(v->note);
+    call_input in = {CALL_CRYPT_NOTE, key->key, key->key_len, 1, (const uint8_t *)v->note, len, len, v->counter, 16};
+    compare_ways(&in, len, "note vector");
+    if (memcmp(last_output(), sealed, len) != 0)
+        fail_call(&in, "note vector", "library and reference agree on other bytes than those written down");
+    in.input = sealed;
+    compare_ways(&in, len, "note vector");
+    if (memcmp(last_output(), v->note, len) != 0)
+        fail_call(&in, "note vector", "it does not open to the text");
+}
+
+static void check_note_vectors(void)
+{
+    for (size_t i = 0; i < NOTE_VECTORS; i++)
+        for (size_t k = 0; k < KEY_LENGTHS; k++)
+            check_note_vector(&paper_vectors[k], &note_vectors[i], note_vectors[i].sealed[k]);
+    printf("note vectors: %d notes sealed as written down and opened, %d key lengths, %d ways\n", NOTE_VECTORS,
+           KEY_LENGTHS, WAYS);
+}
+
 /* Random keys and blocks. */
 
 static void compare_block(uint64_t key_len, int with_expansion)
@@ -99,6 +122,39 @@ static void compare_blocks(void)
     }
 }
 
+/* Notes of every length up to some blocks, and the longest. */
+
+static void compare_note(uint64_t key_len, size_t len, uint32_t number)
+{
+    static test_case c;
+    make_case(&random_source, CALL_CRYPT_NOTE, 0, &c);
+    random_fill(&random_source, c.input, len);
+    c.in.key_len = key_len;
+    c.in.input_len = c.in.out_len = len;
+    c.counter[COUNTER_PREFIX_LENGTH - 1] = 0xff; /* which a carry into the prefix would change, and the byte before it */
+    reference_store_word(c.counter + COUNTER_PREFIX_LENGTH, number);
+    compare_ways(&c.in, len, "note");
+}
+
+static void compare_notes(void)
+{
+    /* Carries to each byte of the number; and four blocks that end at ffffffff, or pass it after three, two and one. */
+    static const uint32_t numbers[] = {
+        0, 0xff, 0xffff, 0xffffff, 0x7fffffff, 0xfffffffc, 0xfffffffd, 0xfffffffe, 0xffffffff,
+    };
+    enum { NUMBERS = sizeof numbers / sizeof numbers[0], LENGTHS = 65 };
+    for (uint64_t key_len = 16; key_len <= 32; key_len += 8) {
+        for (size_t len = 0; len < LENGTHS; len++)
+            for (size_t i = 0; i < NUMBERS; i++)
+                compare_note(key_len, len, numbers[i]);
+        compare_note(key_len, MAX_NOTE_LENGTH - 1, 0xfffffe00);
+        compare_note(key_len, MAX_NOTE_LENGTH, 0xfffffc00); /* the last block has ffffffff */
+        compare_note(key_len, MAX_NOTE_LENGTH, 0xfffffc01); /* the last block has 0 */
+    }
+    printf("notes: %d of each length up to %d bytes and 3 of the greatest, %d key lengths, %d ways\n", NUMBERS,
+           LENGTHS - 1, KEY_LENGTHS, WAYS);
+}
+
 /* Opened after sealed and sealed after opened, by every pair of ways. */
 
 static void call_into(call_input *in, uint8_t *result, const char *what)
@@ -108,6 +164,11 @@ static void call_into(call_input *in, uint8_t *result, const char *what)
     memcpy(result, last_output(), in->out_len);
 }
 
+static call_kind inverse_of(call_kind kind)
+{
+    return kind == CALL_ENCRYPT_BOOK ? CALL_DECRYPT_BOOK : CALL_CRYPT_NOTE;
+}
+
 static void round_trip(const test_case *c, uint64_t way, uint64_t back_way)
 {
     static uint8_t sealed[MAX_INPUT], opened[MAX_INPUT], resealed[MAX_INPUT];
@@ -115,33 +176,33 @@ static void round_trip(const test_case *c, uint64_t way, uint64_t back_way)
     size_t len = in.input_len;
     in.way = way;
     call_into(&in, sealed, "round trip");
-    in.kind = CALL_DECRYPT_BOOK;
+    in.kind = inverse_of(c->in.kind);
     in.way = back_way;
     in.input = sealed;
     call_into(&in, opened, "round trip");
     if (memcmp(opened, c->input, len) != 0)
-        fail_call(&in, "round trip", "way %" PRIu64 " does not decrypt to the book of way %" PRIu64, back_way, way);
-    in.kind = CALL_ENCRYPT_BOOK;
+        fail_call(&in, "round trip", "way %" PRIu64 " does not decrypt what way %" PRIu64 " encrypted", back_way, way);
+    in.kind = c->in.kind;
     in.input = opened;
     call_into(&in, resealed, "round trip");
     if (memcmp(resealed, sealed, len) != 0)
         fail_call(&in, "round trip", "way %" PRIu64 " does not encrypt to the bytes of way %" PRIu64, back_way, way);
 }
 
-static void compare_round_trips(void)
+static void compare_round_trips(call_kind kind, const char *what, const char *parts)
 {
     static test_case c;
-    uint64_t books = scaled(ROUND_TRIP_BOOKS), records = 0;
+    uint64_t trips = scaled(ROUND_TRIPS), count = 0;
     for (uint64_t key_len = 16; key_len <= 32; key_len += 8)
-        for (uint64_t i = 0; i < books; i++) {
-            make_case(&random_source, CALL_ENCRYPT_BOOK, 0, &c);
+        for (uint64_t i = 0; i < trips; i++) {
+            make_case(&random_source, kind, 0, &c);
             c.in.key_len = key_len;
-            records += compare_call(&c.in, "round trip").answer;
+            count += compare_call(&c.in, "round trip").answer;
             for (uint64_t pair = 0; pair < WAYS * WAYS; pair++)
                 round_trip(&c, 1 + pair / WAYS, 1 + pair % WAYS);
         }
-    printf("round trips: %" PRIu64 " books (%" PRIu64 " records) encrypted, decrypted, encrypted by %d pairs of ways\n",
-           KEY_LENGTHS * books, records, WAYS * WAYS);
+    printf("round trips: %" PRIu64 " %s (%" PRIu64 " %s) encrypted, decrypted, encrypted by %d pairs of ways\n",
+           KEY_LENGTHS * trips, what, count, parts, WAYS * WAYS);
 }
 
 /* Valid, damaged and random inputs of every call. */
@@ -154,6 +215,14 @@ static uint64_t pairs[CALLS][LAST_CHECK + 1][LAST_CHECK + 1];
 static uint64_t inputs[CALLS];
 static uint64_t long_books[CALLS];
 static size_t longest_accepted;
+static uint64_t wraps; /* accepted notes in which the number wraps behind a byte ff */
+
+static int wraps_behind_ff(const call_input *in)
+{
+    uint64_t blocks = (in->input_len + REFERENCE_BLOCK - 1) / REFERENCE_BLOCK;
+    uint64_t number = reference_load_word(in->counter + COUNTER_PREFIX_LENGTH);
+    return number + blocks > (uint64_t)UINT32_MAX + 1 && in->counter[COUNTER_PREFIX_LENGTH - 1] == 0xff;
+}
 
 static void try_case(const test_case *c)
 {
@@ -165,6 +234,8 @@ static void try_case(const test_case *c)
         long_books[kind]++;
     if (call_is_book(kind) && v.failing == 0 && c->in.input_len > longest_accepted)
         longest_accepted = c->in.input_len;
+    if (kind == CALL_CRYPT_NOTE && v.failing == 0)
+        wraps += wraps_behind_ff(&c->in);
     for (int b = 1; b <= LAST_CHECK; b++)
         if (b != (int)(v.answer >> 32) && (v.failing >> b & 1))
             pairs[kind][v.answer >> 32][b]++;
@@ -279,9 +350,12 @@ static void compare_inputs(void)
         report_answers((call_kind)kind);
         report_pairs((call_kind)kind);
     }
-    printf("pairs, any call: 3 with 5 to 11 impossible: block calls have no book, book calls no block\n");
+    printf("pairs, any call: 3 or 12 with 5 to 11 impossible: block and note calls have no book, book calls no block\n");
     printf("long books: %" PRIu64 " encrypted, %" PRIu64 " decrypted of 10,000 bytes or more; longest accepted %zu\n",
            long_books[CALL_ENCRYPT_BOOK], long_books[CALL_DECRYPT_BOOK], longest_accepted);
+    printf("notes whose number wraps behind a byte ff: %" PRIu64 " accepted\n", wraps);
+    if (wraps < scaled(LEAST_ANSWERS))
+        fail("only %" PRIu64 " notes wrap, %" PRIu64 " are due", wraps, scaled(LEAST_ANSWERS));
 }
 
 int main(int argc, char **argv)
@@ -289,10 +363,14 @@ int main(int argc, char **argv)
     start_test("differential", argc, argv);
     check_reference();
     check_vectors();
+    check_note_vectors();
     check_edges();
+    check_note_edges();
     check_wide_numbers();
     compare_blocks();
-    compare_round_trips();
+    compare_notes();
+    compare_round_trips(CALL_ENCRYPT_BOOK, "books", "records");
+    compare_round_trips(CALL_CRYPT_NOTE, "notes", "bytes");
     compare_inputs();
     printf("differential: passed\n");
     return 0;

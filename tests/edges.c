@@ -317,6 +317,79 @@ void check_edges(void)
     printf("edges: %u books with a stated answer, each by %d ways\n", tried, WAYS);
 }
 
+/* What a note's call is lent, and the check that answers. Where the way is 1, each way must answer so. */
+typedef struct {
+    uint64_t key_len, way;
+    size_t counter_len, note_len, out_len;
+    int check;
+} note_edge;
+
+static const note_edge note_edges[] = {
+    {0, 1, 16, 33, 33, 1},
+    {15, 1, 16, 33, 33, 1},
+    {17, 1, 16, 33, 33, 1},
+    {33, 1, 16, 33, 33, 1},
+    {16, 0, 16, 33, 33, 2},
+    {16, 4, 16, 33, 33, 2},
+    {16, 1, 0, 33, 33, 3},
+    {16, 1, 15, 33, 33, 3},
+    {16, 1, 17, 33, 33, 3},
+    {16, 1, 32, 33, 33, 3},
+    {16, 1, 16, 33, 0, 4},
+    {16, 1, 16, 33, 16, 4},
+    {16, 1, 16, 33, 32, 4},
+    {16, 1, 16, 33, 34, 4},
+    {16, 1, 16, 33, 48, 4},
+    {16, 1, 16, 33, 0x10000 + 33, 4},
+    {16, 1, 16, 0, 1, 4},
+    {16, 1, 16, 0, 16, 4},
+    {16, 1, 16, 16384, 16383, 4},
+    {16, 1, 16, 16385, 16385, 12},
+    {16, 1, 16, 16400, 16400, 12},
+    {16, 1, 16, 0x10000, 0x10000, 12},
+    {16, 1, 16, MAX_INPUT, MAX_INPUT, 12},
+    /* Two checks fail. */
+    {15, 4, 16, 33, 33, 1},
+    {17, 1, 15, 33, 33, 1},
+    {17, 1, 16, 33, 32, 1},
+    {15, 1, 16, 16385, 16385, 1},
+    {16, 4, 17, 33, 33, 2},
+    {16, 0, 16, 33, 34, 2},
+    {16, 4, 16, 16385, 16385, 2},
+    {16, 1, 15, 33, 32, 3},
+    {16, 1, 17, 33, 34, 3},
+    {16, 1, 15, 16385, 16385, 3},
+    {16, 1, 16, 16385, 16384, 4},
+    {16, 1, 16, 16385, 33, 4},
+    /* None fails. */
+    {16, 1, 16, 0, 0, 0},
+    {24, 1, 16, 0, 0, 0},
+    {32, 1, 16, 0, 0, 0},
+    {16, 1, 16, 1, 1, 0},
+    {24, 1, 16, 33, 33, 0},
+    {32, 1, 16, 16384, 16384, 0},
+};
+
+void check_note_edges(void)
+{
+    static uint8_t note[MAX_INPUT];
+    uint8_t counter[MAX_COUNTER];
+    size_t count = sizeof note_edges / sizeof note_edges[0];
+    random_fill(&random_source, note, sizeof note);
+    random_fill(&random_source, counter, sizeof counter);
+    for (size_t i = 0; i < count; i++) {
+        const note_edge *e = &note_edges[i];
+        uint64_t answer = e->check == 0 ? e->note_len : refusal(e->check);
+        call_input in = {CALL_CRYPT_NOTE, key_bytes, e->key_len, e->way, note, e->note_len, e->out_len, counter,
+                         e->counter_len};
+        if (e->way == 1)
+            compare_ways(&in, answer, "note");
+        else if (compare_call(&in, "note").answer != answer)
+            fail_call(&in, "note", "the reference does not refuse it by check %d", e->check);
+    }
+    printf("note edges: %zu notes with a stated answer, by %d ways where the way is right\n", count, WAYS);
+}
+
 static unsigned expect_ways(call_input in, uint64_t accepted)
 {
     static const uint64_t refused[] = {
@@ -356,16 +429,18 @@ void check_wide_numbers(void)
     call_input expand = {CALL_EXPAND_KEY, key_bytes, 16, 1, NULL, 0, 160};
     call_input block = {CALL_ENCRYPT_BLOCK, key_bytes, 16, 1, book, 16, 16};
     call_input whole = {CALL_ENCRYPT_BOOK, key_bytes, 16, 1, book, 0, 0};
+    call_input note = {CALL_CRYPT_NOTE, key_bytes, 16, 1, book, 33, 33, book, 16};
     unsigned ways = expect_ways(expand, 40);
     expect_ways(block, 1);
     block.kind = CALL_DECRYPT_BLOCK;
     expect_ways(block, 1);
+    expect_ways(note, 33);
     new_book(0, 0);
     whole.input_len = whole.out_len = book_len;
     expect_ways(whole, 0);
     whole.kind = CALL_DECRYPT_BOOK;
     book[0] = SEALED_BOOK;
     expect_ways(whole, 0);
-    printf("64-bit numbers: %u ways refused by five calls, %u key lengths refused for constants\n", ways,
+    printf("64-bit numbers: %u ways refused by six calls, %u key lengths refused for constants\n", ways,
            expect_key_lengths());
 }

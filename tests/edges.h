@@ -5,6 +5,9 @@
 /* The edges of the book's rules. */
 void check_edges(void);
 
+/* The edges of each check of a note, and each two that can fail at once. */
+void check_note_edges(void);
+
 /* Ways, key lengths and counts as 64-bit numbers: none may be cut to its low
  * bits. */
 void check_wide_numbers(void);

@@ -32,7 +32,7 @@ typedef struct {
 static size_t page;
 
 /* A forbidden access ends the test; the text says which call was made. */
-static char current_call[200];
+static char current_call[300];
 
 static void report_fault(int signal_number)
 {
@@ -46,9 +46,8 @@ static void report_fault(int signal_number)
 
 static void name_call(const call_input *in, const char *what)
 {
-    snprintf(current_call, sizeof current_call,
-             "%s, %s (key %" PRIu64 " bytes, way %" PRIu64 ", input %zu bytes, output %zu bytes)", what,
-             call_name(in->kind), in->key_len, in->way, in->input_len, in->out_len);
+    int written = snprintf(current_call, sizeof current_call, "%s, ", what);
+    describe_call(in, current_call + written, sizeof current_call - (size_t)written);
 }
 
 static void protect(uint8_t *from, size_t len, int access)
@@ -104,6 +103,7 @@ static verdict fenced_call(const call_input *in, placement where, int output_acc
     static uint8_t expected[MAX_OUTPUT + 2 * 65536];
     size_t key_len = in->kind == CALL_CONSTANTS ? 0 : in->key_len;
     fenced key = fenced_input(in->key, key_len, where);
+    fenced counter = fenced_input(in->counter, in->counter_len, where);
     fenced input = fenced_input(in->input, in->input_len, where);
     fenced out = new_fenced(in->out_len, where);
     call_input lent = *in;
@@ -112,6 +112,7 @@ static verdict fenced_call(const call_input *in, placement where, int output_acc
     memcpy(expected, out.room, out.room_len);
     v = reference_call(in, expected + (out.bytes - out.room));
     lent.key = key.bytes;
+    lent.counter = counter.bytes;
     lent.input = input.bytes;
     protect(out.room, out.room_len, output_access);
     name_call(in, output_access == PROT_READ ? "output lent read-only to a refusal" : "fenced");
@@ -120,6 +121,7 @@ static verdict fenced_call(const call_input *in, placement where, int output_acc
         fail_answer(in, "fenced", answer, v.answer);
     compare_room(in, &out, expected);
     unmap_fenced(&key);
+    unmap_fenced(&counter);
     unmap_fenced(&input);
     unmap_fenced(&out);
     return v;
@@ -139,28 +141,45 @@ static void guard_case(const test_case *c)
     fenced_call(&c->in, AT_END, PROT_READ);
 }
 
-/* A valid case with every length that its key, input or output can be given,
- * up to a little above the right one. */
-static void guard_lengths(call_kind kind)
+/* A valid case with every length that its key, counter block, input or output
+ * can be given, up to a little above the right one. */
+static void guard_lengths(call_kind kind, uint64_t way)
 {
     static test_case c;
     call_input right;
     do
         make_case(&random_source, kind, 0, &c);
-    while (call_is_book(kind) && (c.in.input_len < 50 || c.in.input_len > 300));
+    while (call_keeps_length(kind) && (c.in.input_len < 50 || c.in.input_len > 300));
+    c.in.way = way;
     right = c.in;
     for (c.in.key_len = 0; c.in.key_len <= MAX_KEY; c.in.key_len++)
         guard_case(&c);
     c.in = right;
     for (c.in.out_len = 0; c.in.out_len <= right.out_len + 20; c.in.out_len++)
         guard_case(&c);
-    if (!call_is_block(kind) && !call_is_book(kind))
+    c.in = right;
+    if (kind == CALL_CRYPT_NOTE)
+        for (c.in.counter_len = 0; c.in.counter_len <= MAX_COUNTER; c.in.counter_len++)
+            guard_case(&c);
+    if (!call_has_input(kind))
         return;
     c.in = right;
     for (c.in.input_len = 0; c.in.input_len <= right.input_len + 20; c.in.input_len++) {
         c.in.out_len = reference_output_length(&c.in);
         guard_case(&c);
     }
+}
+
+/* The longest note and one that is too long, by each way. */
+static void guard_long_notes(void)
+{
+    static test_case c;
+    make_case(&random_source, CALL_CRYPT_NOTE, 1u << CHECK_NOTE_LENGTH, &c);
+    for (c.in.way = 1; c.in.way <= WAYS; c.in.way++)
+        for (size_t len = MAX_NOTE_LENGTH; len <= MAX_NOTE_LENGTH + 1; len++) {
+            c.in.input_len = c.in.out_len = len;
+            guard_case(&c);
+        }
 }
 
 static void guard_calls(void)
@@ -183,8 +202,10 @@ static void guard_calls(void)
                 make_case(&random_source, (call_kind)kind, 1u << check, &c);
                 guard_case(&c);
             }
-        guard_lengths((call_kind)kind);
+        for (uint64_t way = 1; way <= WAYS; way++)
+            guard_lengths((call_kind)kind, way);
     }
+    guard_long_notes();
     printf("guard: %" PRIu64 " accepted and %" PRIu64 " refused calls between guard pages\n", accepted, refused);
 }
 
@@ -225,10 +246,16 @@ static void null_pointers(void)
             expect(&(call_input){(call_kind)kind, key, 16, way, NULL, 0, 0}, NULL, 5, "null book and output");
             expect(&(call_input){(call_kind)kind, NULL, 0, way, NULL, 0, 0}, NULL, 1, "all null");
         }
+        expect(&(call_input){CALL_CRYPT_NOTE, NULL, 0, way, block, 16, 16, block, 16}, out, 1, "null key");
+        expect(&(call_input){CALL_CRYPT_NOTE, key, 16, way, block, 16, 16, NULL, 0}, out, 3, "null counter block");
+        expect(&(call_input){CALL_CRYPT_NOTE, key, 16, way, NULL, 0, 16, block, 16}, out, 4, "null note");
+        expect(&(call_input){CALL_CRYPT_NOTE, key, 16, way, block, 16, 0, block, 16}, NULL, 4, "null output");
+        expect(&(call_input){CALL_CRYPT_NOTE, key, 16, way, NULL, 0, 0, block, 16}, NULL, 0, "null note and output");
+        expect(&(call_input){CALL_CRYPT_NOTE, NULL, 0, way, NULL, 0, 0, NULL, 0}, NULL, 1, "all null");
     }
     for (size_t i = 0; i < sizeof out; i++)
         if (out[i] != 0)
-            fail("a refusal beside a null pointer changed output byte %zu", i);
+            fail("a call with a null pointer changed output byte %zu", i);
     printf("guard: %u calls with null pointers of length 0\n", stated);
 }
 
@@ -261,6 +288,12 @@ static void wide_lengths(void)
             expect(&(call_input){(call_kind)kind, key, 16, way, m, wide + 4, 4}, m, 4, "wide book");
             expect(&(call_input){(call_kind)kind, key, 16, way, m, wide + 4, wide + 4}, m, 5, "wide book and output");
         }
+        expect(&(call_input){CALL_CRYPT_NOTE, m, wide + 16, way, block, 16, 16, block, 16}, m, 1, "wide key");
+        expect(&(call_input){CALL_CRYPT_NOTE, key, 16, way, block, 16, 16, m, wide + 16}, m, 3, "wide counter block");
+        expect(&(call_input){CALL_CRYPT_NOTE, key, 16, way, block, 16, wide + 16, block, 16}, m, 4, "wide output");
+        expect(&(call_input){CALL_CRYPT_NOTE, key, 16, way, m, wide + 16, 16, block, 16}, m, 4, "wide note");
+        expect(&(call_input){CALL_CRYPT_NOTE, key, 16, way, m, wide + 16, wide + 16, block, 16}, m, 12,
+               "wide note and output");
     }
     munmap(m, mapped);
     printf("guard: %u calls with lengths above 2^32\n", stated);

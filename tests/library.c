@@ -12,6 +12,9 @@ uint64_t library_call(const call_input *in, uint8_t *out)
         return planbook_encrypt_block(in->key, in->key_len, in->way, in->input, in->input_len, out, in->out_len);
     case CALL_DECRYPT_BLOCK:
         return planbook_decrypt_block(in->key, in->key_len, in->way, in->input, in->input_len, out, in->out_len);
+    case CALL_CRYPT_NOTE:
+        return planbook_crypt_note(in->key, in->key_len, in->way, in->counter, in->counter_len, in->input, in->input_len,
+                                   out, in->out_len);
     case CALL_ENCRYPT_BOOK:
         return planbook_encrypt_book(in->key, in->key_len, in->way, in->input, in->input_len, out, in->out_len);
     default:

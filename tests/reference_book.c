@@ -17,7 +17,7 @@ static size_t load_half(const uint8_t *bytes)
 const char *call_name(call_kind kind)
 {
     static const char *const names[CALLS] = {
-        "constants", "expand key", "encrypt block", "decrypt block", "encrypt book", "decrypt book",
+        "constants", "expand key", "encrypt block", "decrypt block", "encrypt book", "decrypt book", "crypt note",
     };
     return names[kind];
 }
@@ -32,7 +32,17 @@ int call_is_book(call_kind kind)
     return kind == CALL_ENCRYPT_BOOK || kind == CALL_DECRYPT_BOOK;
 }
 
-/* Checks 1 to 4. */
+int call_keeps_length(call_kind kind)
+{
+    return call_is_book(kind) || kind == CALL_CRYPT_NOTE;
+}
+
+int call_has_input(call_kind kind)
+{
+    return call_is_block(kind) || call_keeps_length(kind);
+}
+
+/* Checks 1 to 4, and 12. */
 
 static int key_length_permitted(uint64_t len)
 {
@@ -48,7 +58,7 @@ static size_t words_for(call_kind kind, uint64_t key_len)
 
 size_t reference_output_length(const call_input *in)
 {
-    if (call_is_book(in->kind))
+    if (call_keeps_length(in->kind))
         return in->input_len;
     if (call_is_block(in->kind))
         return REFERENCE_BLOCK;
@@ -58,13 +68,13 @@ size_t reference_output_length(const call_input *in)
 static int output_length_wrong(const call_input *in)
 {
     size_t len = in->out_len;
-    if (call_is_book(in->kind) || call_is_block(in->kind) || key_length_permitted(in->key_len))
+    if (call_has_input(in->kind) || key_length_permitted(in->key_len))
         return len != reference_output_length(in);
     return len != 4 * words_for(in->kind, 16) && len != 4 * words_for(in->kind, 24) &&
            len != 4 * words_for(in->kind, 32);
 }
 
-static unsigned failing_before_book(const call_input *in)
+static unsigned failing_without_book(const call_input *in)
 {
     unsigned failing = 0;
     if (!key_length_permitted(in->key_len))
@@ -73,8 +83,12 @@ static unsigned failing_before_book(const call_input *in)
         failing |= bit(CHECK_WAY);
     if (call_is_block(in->kind) && in->input_len != REFERENCE_BLOCK)
         failing |= bit(CHECK_BLOCK_LENGTH);
+    if (in->kind == CALL_CRYPT_NOTE && in->counter_len != COUNTER_LENGTH)
+        failing |= bit(CHECK_BLOCK_LENGTH);
     if (output_length_wrong(in))
         failing |= bit(CHECK_OUTPUT_LENGTH);
+    if (in->kind == CALL_CRYPT_NOTE && in->input_len > MAX_NOTE_LENGTH)
+        failing |= bit(CHECK_NOTE_LENGTH);
     return failing;
 }
 
@@ -280,6 +294,29 @@ static verdict book_verdict(const call_input *in, unsigned failing, uint8_t *out
     return v;
 }
 
+/* Counter mode. */
+
+/* The next counter block. No carry leaves the bytes that count. */
+static void count_up(uint8_t *counter)
+{
+    for (int i = COUNTER_LENGTH - 1; i >= COUNTER_PREFIX_LENGTH; i--)
+        if (++counter[i] != 0)
+            return;
+}
+
+static uint64_t crypt_note(const reference_key *key, const call_input *in, uint8_t *out)
+{
+    uint8_t counter[COUNTER_LENGTH], encrypted[REFERENCE_BLOCK];
+    memcpy(counter, in->counter, COUNTER_LENGTH);
+    for (size_t at = 0; at < in->input_len; at += REFERENCE_BLOCK) {
+        reference_encrypt_block(key, counter, encrypted);
+        for (size_t i = 0; i < REFERENCE_BLOCK && at + i < in->input_len; i++)
+            out[at + i] = in->input[at + i] ^ encrypted[i];
+        count_up(counter);
+    }
+    return in->input_len;
+}
+
 /* Accepted outputs of the other calls; each answers its count. */
 
 static uint64_t write_words(uint8_t *out, const uint32_t *words, size_t count)
@@ -305,6 +342,8 @@ static uint64_t accepted(const call_input *in, uint8_t *out)
     case CALL_ENCRYPT_BLOCK:
         reference_encrypt_block(&key, in->input, out);
         return 1;
+    case CALL_CRYPT_NOTE:
+        return crypt_note(&key, in, out);
     default:
         reference_decrypt_block(&key, in->input, out);
         return 1;
@@ -321,7 +360,7 @@ static uint64_t answer_of(unsigned failing, uint64_t count)
 
 verdict reference_call(const call_input *in, uint8_t *out)
 {
-    verdict v = {failing_before_book(in), 0};
+    verdict v = {failing_without_book(in), 0};
     if (call_is_book(in->kind)) {
         v.failing |= failing_head(in);
         if (in->input_len >= HEAD_LENGTH)

@@ -1,13 +1,14 @@
 /*
- * The rules of the calls and of the plan book, written a second time.
+ * The rules of the calls, of the plan book and of the notes, written a second
+ * time.
  *
  * The library stops at the first check that fails. Here every check is judged
  * by itself, and the answer is the lowest number that fails: the two can agree
  * only if the order of the checks is right too.
  *
  * A check that reads bytes is judged on those that are there:
- *   1 to 5   always, in the calls that have them; 4 fails beside a wrong key
- *            length if the output fits none of the permitted ones;
+ *   1 to 5   always, in the calls that have them, and so is 12; 4 fails beside
+ *            a wrong key length if the output fits none of the permitted ones;
  *   6        if a byte that is there shows it;
  *   7, 8     if the head is there;
  *   9        if some entry that lies whole in the book is broken;
@@ -35,7 +36,8 @@ enum {
     CHECK_ENTRY,
     CHECK_LENGTH,
     CHECK_RECORD,
-    LAST_CHECK = CHECK_RECORD
+    CHECK_NOTE_LENGTH,
+    LAST_CHECK = CHECK_NOTE_LENGTH
 };
 
 enum {
@@ -51,6 +53,12 @@ enum {
     DEFAULT_REPLICATES = 4 /* where an entry has 0 */
 };
 
+enum {
+    MAX_NOTE_LENGTH = 16384,
+    COUNTER_LENGTH = REFERENCE_BLOCK,
+    COUNTER_PREFIX_LENGTH = 12 /* the bytes that do not count */
+};
+
 typedef enum {
     CALL_CONSTANTS,
     CALL_EXPAND_KEY,
@@ -58,11 +66,19 @@ typedef enum {
     CALL_DECRYPT_BLOCK,
     CALL_ENCRYPT_BOOK,
     CALL_DECRYPT_BOOK,
+    CALL_CRYPT_NOTE,
     CALLS
 } call_kind;
 
+/* Calls without a counter block are written down without its two fields, which
+ * are then null and 0. */
+#ifdef __GNUC__
+#pragma GCC diagnostic ignored "-Wmissing-field-initializers"
+#endif
+
 /* What is lent in one call. Constants have no key, way or input; key_len is
- * then the number that is given in its place. */
+ * then the number that is given in its place. Only a note has a counter block;
+ * the note itself is the input. */
 typedef struct {
     call_kind kind;
     const uint8_t *key;
@@ -71,6 +87,8 @@ typedef struct {
     const uint8_t *input;
     size_t input_len;
     size_t out_len;
+    const uint8_t *counter;
+    size_t counter_len;
 } call_input;
 
 typedef struct {
@@ -81,6 +99,8 @@ typedef struct {
 const char *call_name(call_kind kind);
 int call_is_book(call_kind kind);
 int call_is_block(call_kind kind);
+int call_has_input(call_kind kind);
+int call_keeps_length(call_kind kind); /* the output is as long as the input */
 
 /* The bytes of output that a call asks for where its other lengths are right;
  * 0 where the key length is not permitted and decides it. */

@@ -1,7 +1,8 @@
 /*
  * What a call leaves behind on the stack, and how much of it a call uses. Each call is made on a stack of its own, which is
- * then searched for the words of the key, of the expanded key and of the clear block or record: after planbook_wipe_stack
- * there must be none; without it there must be some, or this test could not fail.
+ * then searched for the words of the key, of the expanded key, of the clear block, record or note, and of the encrypted
+ * counter blocks, which open the sealed note: after planbook_wipe_stack there must be none; without it there must be some, or
+ * this test could not fail.
  *
  *   stack [SEED]
  */
@@ -21,7 +22,8 @@ enum {
     FILL = 0xa5,   /* what the stack holds before the call */
     MARGIN = 4096, /* how much less than PLANBOOK_STACK_BYTES is used, the frames of this file included */
     RECORDS = 5,
-    MAX_SECRETS = 8 + 56 + 3 * RECORDS
+    NOTE_BYTES = 5 * REFERENCE_BLOCK + 8,
+    MAX_SECRETS = 8 + 56 + 2 * (NOTE_BYTES / 4)
 };
 
 static uint8_t stack[OWN_STACK_BYTES];
@@ -29,7 +31,7 @@ static ucontext_t outside, inside;
 
 /* One call, as the function on the other stack finds it: nothing secret goes through this file's own frames. */
 static call_input in;
-static uint8_t key[32], input[256], output[PLANBOOK_CONSTANTS256_BYTES];
+static uint8_t key[32], counter[COUNTER_LENGTH], input[256], output[PLANBOOK_CONSTANTS256_BYTES];
 static uint64_t answer;
 static int wipe;
 
@@ -146,6 +148,23 @@ static void make_book_input(void)
     input[0] = SEALED_BOOK;
 }
 
+/* The encrypted counter blocks are the sealed note exclusive-ored with the text. */
+static void make_note_input(void)
+{
+    uint8_t encrypted[NOTE_BYTES];
+    random_fill(&random_source, counter, sizeof counter);
+    random_fill(&random_source, input, NOTE_BYTES);
+    add_secrets(input, NOTE_BYTES);
+    in.counter = counter;
+    in.counter_len = sizeof counter;
+    in.input_len = in.out_len = NOTE_BYTES;
+    if (reference_call(&in, encrypted).failing != 0)
+        fail_call(&in, "stack", "the reference refuses it");
+    for (size_t i = 0; i < NOTE_BYTES; i++)
+        encrypted[i] ^= input[i];
+    add_secrets(encrypted, NOTE_BYTES);
+}
+
 static void make_call(call_kind kind, uint64_t way, uint64_t key_len)
 {
     memset(&in, 0, sizeof in);
@@ -160,6 +179,8 @@ static void make_call(call_kind kind, uint64_t way, uint64_t key_len)
         make_block_input();
     if (call_is_book(kind))
         make_book_input();
+    if (kind == CALL_CRYPT_NOTE)
+        make_note_input();
     in.out_len = reference_output_length(&in);
     if (kind == CALL_CONSTANTS)
         return;

@@ -22,7 +22,7 @@ enum {
     CASES = 12, /* of each call by each way */
     ALL_CASES = CALLS * WAYS * CASES,
     ROUNDS = 5,   /* of each thread through all cases */
-    REPEATS = 20, /* of a case in a round, but for the longest books */
+    REPEATS = 20, /* of a case in a round, but for the longest books and notes */
     PATTERN = 165
 };
 
@@ -46,12 +46,17 @@ static known_case cases[ALL_CASES];
 static worker workers[THREADS];
 static pthread_barrier_t start;
 
-/* Puts the longest book in a case's place. */
+/* Puts the longest book or note in a case's place. */
 static void make_longest(test_case *c)
 {
     static const book_shape shape = {5, {1021, 1021, 1021, 1021, 4}};
     static uint8_t clear[MAX_INPUT];
     call_input in = c->in;
+    if (in.kind == CALL_CRYPT_NOTE) {
+        c->in.input_len = c->in.out_len = MAX_NOTE_LENGTH;
+        random_fill(&random_source, c->input, MAX_NOTE_LENGTH);
+        return;
+    }
     in.input_len = in.out_len = make_clear_book(&random_source, &shape, c->input);
     c->in = in;
     if (in.kind == CALL_ENCRYPT_BOOK)
@@ -69,7 +74,7 @@ static void know_case(known_case *k, call_kind kind, uint64_t way, int number)
     else
         make_case(&random_source, kind, 0, &k->c);
     k->c.in.way = way;
-    k->repeats = number == 0 && call_is_book(kind) ? 1 : REPEATS;
+    k->repeats = number == 0 && call_keeps_length(kind) ? 1 : REPEATS;
     if (k->repeats == 1)
         make_longest(&k->c);
     memset(k->output, PATTERN, k->c.in.out_len);

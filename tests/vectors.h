@@ -24,4 +24,20 @@ typedef struct {
 
 extern const paper_vector paper_vectors[KEY_LENGTHS];
 
+enum { NOTE_VECTORS = 2, MAX_VECTOR_NOTE = 64 };
+
+/*
+ * Notes under the keys of the vectors above. No paper prints such: the sealed
+ * bytes are those of the reference, and of a third CLEFIA, in Python, that was
+ * written for them alone. They stand here so that the reference and the library
+ * cannot both go wrong in one way.
+ */
+typedef struct {
+    uint8_t counter[16];
+    const char *note;
+    uint8_t sealed[KEY_LENGTHS][MAX_VECTOR_NOTE];
+} note_vector;
+
+extern const note_vector note_vectors[NOTE_VECTORS];
+
 #endif

@@ -65,6 +65,7 @@ test_completion() {
     done
     [ "$(completes seal --way '' | tr '\n' ' ')" = "1 2 3 " ] || bad "the completion of --way"
     [ "$(completes keygen --bits 1 | tr '\n' ' ')" = "128 192 " ] || bad "the completion of --bits"
+    [ -z "$(completes note --counter '')" ] || bad "the completion of --counter, which is no file"
     [ "$(completes seal --key hex19)" = hex192 ] || bad "the completion of a file name"
     [ "$(completes se)" = seal ] || bad "the completion of a verb"
 }

@@ -1,4 +1,4 @@
-# Part of tests/cli/run: no key, expanded key, clear record or line of a plan is left in memory when the command ends.
+# Part of tests/cli/run: no key, expanded key, clear record, line of a plan or text of a note is left in memory when the command ends.
 #
 # tests/cli/faults.c looks through all writable memory at the very end. That it can find something is seen in tests/cli/bugs,
 # where commands that do not wipe are caught by it.
@@ -9,6 +9,8 @@ numbers=020000000c00000003000000
 round_keys=f9cee6f3385ef78d
 line_text=34312c372c322c31322c33 # 41,7,2,12,3
 row_text=2020202020202020203720202020202020202032202020203132 # the row of show from the entry's column on
+
+hex_of() { printf %s "$1" | od -An -v -tx1 | tr -d ' \n'; }
 
 # nothing_left WHAT STATUS HEX ARGUMENTS..
 nothing_left() {
@@ -39,8 +41,15 @@ test_leftovers() {
     done
     nothing_left "the row of the table" 0 $row_text show clear
     nothing_left "the clear record's numbers" 0 $numbers show clear
-    nothing_left "the key's digits" 0 "$(printf %s $key128 | od -An -v -tx1 | tr -d ' \n')" open --key-hex hex128 sealed128 x
+    nothing_left "the key's digits" 0 "$(hex_of $key128)" open --key-hex hex128 sealed128 x
     nothing_left "a new key" 0 0102030405060708090a0b0c0d0e0f10 keygen x
+    # a long note, since the beginning of memory that was given back is soon written over
+    yes "$note_text" | head -c 16384 >long
+    "$planbook" note --key key128 --counter $counter long long128
+    for name in long long128; do
+        nothing_left "round keys" 0 $round_keys note --key key128 --counter $counter $name
+        nothing_left "the text of the note" 0 "$(hex_of "$note_text")" note --key key128 --counter $counter $name x
+    done
     # whatever else was on the stack
     when=scan,mark
     for verb in "show clear" "open --key key128 sealed128 x"; do
@@ -48,10 +57,12 @@ test_leftovers() {
     done
     # the key is gone as soon as it has been used
     when=early-scan
-    for verb in "seal --key key128 clear x" "seal --key key128 plan.csv x" "open --key key128 sealed128 x" "show --key key128 sealed128 x"; do
+    for verb in "seal --key key128 clear x" "seal --key key128 plan.csv x" "open --key key128 sealed128 x" "show --key key128 sealed128 x" \
+        "note --key key128 --counter $counter note x"; do
         nothing_left "the key, while the output is written," 0 $key128 $verb
         nothing_left "round keys, while the output is written," 0 $round_keys $verb
     done
+    nothing_left "the text, while the sealed note is written," 0 "$(hex_of "$note_text")" note --key key128 --counter $counter long x
     when=scan
     # the same where the command ends early
     nothing_left "the key" 1 $key192 open --key key192 sealed128 x
@@ -62,4 +73,9 @@ test_leftovers() {
     { cat plan.csv; echo 41,x,2,12,4; } >damaged.csv
     nothing_left "the plan's line" 2 $line_text seal --key key128 damaged.csv x
     nothing_left "the clear record's numbers" 2 $numbers check damaged.csv
+    nothing_left "the key" 1 $key128 note --key key128 --counter $counter --way 4 note x
+    nothing_left "the text of the note" 2 "$(hex_of "$note_text")" note --key key128 --counter $counter long128 missing/x
+    echo >>long
+    nothing_left "the text of the note" 1 "$(hex_of "$note_text")" note --key key128 --counter $counter long x
+    rm -f long long128
 }

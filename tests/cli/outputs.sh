@@ -13,15 +13,15 @@ test_existing_outputs() {
     ln -s clear link
     ln clear twin
     cp clear kept
-    expect 2 "clear is an input as well" seal --force --key key128 clear clear
-    expect 2 "./clear is an input as well" seal --force --key key128 clear ./clear
-    expect 2 "twin is an input as well" seal --force --key key128 clear twin
-    expect 2 "link is an input as well" seal --force --key key128 clear link
-    expect 2 "key128 is an input as well" seal --force --key key128 clear key128
-    cp clear in
-    expect 2 "in is an input as well" seal --force --key key128 - in
-    "$planbook" seal --key key128 clear >>twin 2>err
-    judge "standard output is the input" 2 "standard output is an input as well" $?
+    for line in "seal --force --key key128" "note --force --key key128 --counter $counter"; do
+        for name in clear ./clear twin link key128; do
+            expect 2 "$name is an input as well" $line clear $name
+        done
+        cp clear in
+        expect 2 "in is an input as well" $line - in
+        "$planbook" $line clear >>twin 2>err
+        judge "standard output is the input" 2 "standard output is an input as well" $?
+    done
     same clear kept
     rm link twin
     ln -s precious link
@@ -79,9 +79,12 @@ test_modes() {
     chmod 600 p
     expect 0 "" open --force --key key128 sealed128 p
     if [ "$(id -u)" -eq 0 ]; then
+        chmod 600 s
         chown 65534:65534 s
-        expect 0 "" seal --force --key key128 clear s
-        holds "owner and group stay" [ "$(stat -c %u:%g s)" = 65534:65534 ]
+        for line in "seal --force --key key128 clear" "note --force --key key128 --counter $counter note"; do
+            expect 0 "" $line s
+            holds "planbook $line: owner and group stay" [ "$(stat -c %u:%g s)" = 65534:65534 ]
+        done
         chmod 664 s
         with_fault no-owner seal --force --key key128 clear s
         judge "owner and group cannot stay" 0 "" $?
@@ -135,7 +138,7 @@ test_no_links() {
 test_full_disk() {
     for line in "seal --key key128 clear" "open --key key128 sealed128" "show clear" "labels sealed128" \
         "pack --trials trials.csv plan.csv" "unpack --trials x clear" "unpack clear" "find --key key128 sealed128 41 0" \
-        "check plan.csv" "keygen -" "--help" "help seal" "--version"; do
+        "check plan.csv" "keygen -" "note --key key128 --counter $counter note" "--help" "help seal" "--version"; do
         "$planbook" $line >/dev/full 2>err
         judge "planbook $line, full disk" 2 "cannot write standard output: No space left on device" $?
         "$planbook" $line >&- 2>err
@@ -233,8 +236,10 @@ test_permissions() {
     chmod 600 key128
     cp clear unreadable
     chmod 0 unreadable
-    $as_other ./other show unreadable 2>err
-    judge "a book that may not be read" 2 "cannot open unreadable: Permission denied" $?
+    for line in show "note --key key128 --counter $counter"; do
+        $as_other ./other $line unreadable 2>err
+        judge "planbook $line: an input that may not be read" 2 "cannot open unreadable: Permission denied" $?
+    done
     $as_other ./other seal --key unreadable clear 2>err >out
     judge "a key that may not be read" 2 "cannot open unreadable: Permission denied" $?
     rm -rf locked unlisted unreadable
@@ -245,9 +250,10 @@ test_terminal() {
         skip "terminals: no usable script(1)"
         return
     fi
-    for line in "seal --key key128 clear" "open --key key128 sealed128 -" "pack plan.csv" "keygen -"; do
+    for line in "seal --key key128 clear" "open --key key128 sealed128 -" "pack plan.csv" "keygen -" \
+        "note --key key128 --counter $counter note" "note --key key128 --counter $counter note128 -"; do
         script -qec "'$planbook' $line" /dev/null >err 2>&1 </dev/null
-        judge "planbook $line, to a terminal" 2 "books and keys are not text" $?
+        judge "planbook $line, to a terminal" 2 "books, keys and notes may be any bytes, and do not go to a terminal" $?
         holds "planbook $line: only the message" [ "$(wc -l <err)" -eq 1 ]
     done
     script -qec "'$planbook' labels sealed128" /dev/null >err 2>&1 </dev/null

@@ -11,12 +11,25 @@ test_usage() {
     expect_nothing x 2 "--key needs a value: FILE" seal clear x --key
     expect_nothing x 2 "--force is given twice" seal --force --key key128 --force clear x
     expect_nothing x 2 "--force takes no value" seal --force=yes --key key128 clear x
-    expect_exactly 2 "planbook: seal needs a key, by either --key or --key-hex; planbook keygen makes one" seal clear x
+    for line in "seal clear" "note --counter $counter note"; do
+        expect_exactly 2 "planbook: ${line%% *} needs a key, by either --key or --key-hex; planbook keygen makes one" $line x
+    done
     expect_exactly 2 "planbook: --key and --key-hex are both given, but a key is read from one file" seal --key key128 --key-hex hex128 clear x
     expect_exactly 2 "planbook: --key and --key-hex are both given, but a key is read from one file" show --key key128 --key-hex hex128 sealed128 x
+    expect_exactly 2 "planbook: note needs a counter block, by --counter: for a new note 32 hexadecimal digits that were never used under its key, for a sealed note those that it was sealed from" \
+        note --key key128 note x
+    holds "nothing is made without a counter block" [ ! -e x ]
+    expect_nothing x 2 "--counter needs a value: HEX" note --key key128 note x --counter
+    expect_nothing x 2 "--counter is given twice" note --key key128 --counter $counter --counter=$counter note x
+    for verb in seal open show; do
+        expect_nothing x 2 "$verb has no option --counter; planbook $verb --help lists them" $verb --key key128 --counter $counter clear x
+    done
+    expect_nothing x 2 "note has no option --trials" note --key key128 --counter $counter --trials trials.csv note x
+    expect_nothing x 2 "y is one word too many: note takes [NOTE [OUT]]" note --key key128 --counter $counter note x y
     expect_nothing x 2 "y is one word too many: seal takes [PLAN | CLEAR [SEALED]]" seal --key key128 clear x y
     expect_nothing x 2 "only one of the inputs" seal --key - - x
     expect_nothing x 2 "only one of the inputs" pack --trials - - x
+    expect_nothing x 2 "only one of the inputs" note --key - --counter $counter - x
     expect_nothing x 2 "cannot both go to standard output" unpack --trials - clear
     for way in two -1 +2 2x '' ' 2' 18446744073709551616; do
         expect_nothing x 2 "--way takes a number: $way" seal --key key128 --way "$way" clear x
@@ -33,11 +46,11 @@ test_usage() {
 }
 
 test_help() {
-    verbs='keygen|check|seal|open|show|labels|find|pack|unpack'
+    verbs='keygen|check|seal|open|show|labels|find|pack|unpack|note'
     for words in --help -h help; do
         expect 0 "" $words
-        holds "$words names every verb" [ "$(grep -cE "planbook ($verbs) " out)" -eq 9 ]
-        holds "$words says what each does" [ "$(grep -cE "^  ($verbs) +[A-Z]" out)" -eq 9 ]
+        holds "$words names every verb" [ "$(grep -cE "planbook ($verbs) " out)" -eq 10 ]
+        holds "$words says what each does" [ "$(grep -cE "^  ($verbs) +[A-Z]" out)" -eq 10 ]
     done
     for verb in $(echo $verbs | tr '|' ' '); do
         "$planbook" --help | sed -n "s/.*\(planbook $verb .*\)/usage: \1/p" >wanted
@@ -49,6 +62,10 @@ test_help() {
     done
     expect 0 "" seal --help
     holds "the help of seal has its options" [ "$(grep -cE '^  --(key|key-hex|way|trials|force) ' out)" -eq 5 ]
+    holds "and no others" [ "$(grep -cE '^  --' out)" -eq 5 ]
+    expect 0 "" note --help
+    holds "the usage of note" grep -qxF "usage: planbook note --key FILE | --key-hex FILE --counter HEX [--way N] [--force] [NOTE [OUT]]" out
+    holds "the help of note has its options" [ "$(grep -cE '^  --(key|key-hex|counter|way|force) ' out)" -eq 5 ]
     holds "and no others" [ "$(grep -cE '^  --' out)" -eq 5 ]
     expect 2 "close is not a verb" help close
     expect 2 "seal is one word too many after --help" --help seal
@@ -75,7 +92,9 @@ test_keys() {
     umask 077
     for length in 0 15 17 23 25 31 33 4000; do
         head -c $length /dev/zero >short
-        expect_nothing x 1 "the key in short is $(echo $length | sed 's/^4/4,/') bytes long, not 16, 24 or 32 [check 1]" seal --key short clear x
+        for line in "seal --key short clear" "note --key short --counter $counter note"; do
+            expect_nothing x 1 "the key in short is $(echo $length | sed 's/^4/4,/') bytes long, not 16, 24 or 32 [check 1]" $line x
+        done
     done
     echo 00112233445566778899aabbccddee >short
     expect_nothing x 1 "the key in short is 15 bytes long, not 16, 24 or 32 [check 1]" open --key-hex short sealed128 x
@@ -106,7 +125,9 @@ test_keys() {
     expect_nothing x 2 "cannot open missing: No such file" open --key missing sealed128 x
     expect_nothing x 2 "cannot read folder: Is a directory" open --key folder sealed128 x
     for way in 0 4 257 4294967297 18446744073709551615; do
-        expect_exactly 1 "planbook: --way $way: the ways are 1, 2 and 3 [check 2]" seal --key key128 --way $way clear x
+        for line in "seal --key key128 clear" "note --key key128 --counter $counter note"; do
+            expect_exactly 1 "planbook: --way $way: the ways are 1, 2 and 3 [check 2]" $line x --way $way
+        done
     done
     expect_exactly 1 "planbook: sealed128 does not open under this key: most likely it was sealed under another one, or changed since [check 11]" \
         open --key key256 sealed128 x

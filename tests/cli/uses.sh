@@ -313,5 +313,8 @@ test_memory() {
     judge "valgrind planbook seal" 0 "" $?
     valgrind -q --leak-check=full --error-exitcode=9 "$plain" find --json --key key128 sealed128 41 0 >out 2>err
     judge "valgrind planbook find" 0 "" $?
+    valgrind -q --leak-check=full --error-exitcode=9 "$plain" note --key key128 --counter $counter note128 >out 2>err
+    judge "valgrind planbook note" 0 "" $?
+    same out note
     rm -f x
 }

@@ -65,7 +65,7 @@ static void change_case(recipe *r, test_case *c)
     call_input *in = &c->in;
     size_t contents = in->input_len < 100 ? in->input_len : 100; /* of a book, head and first entries */
     uint64_t place;
-    switch (take(r, 1) % 8) {
+    switch (take(r, 1) % 10) {
     case 0: in->way = take(r, 8); break;
     case 1: in->out_len = changed_length(r, in->out_len, MAX_INPUT); break;
     case 2: in->input_len = changed_length(r, in->input_len, MAX_INPUT); break;
@@ -79,6 +79,14 @@ static void change_case(recipe *r, test_case *c)
         place = take(r, 1);
         change_byte(c->input, contents, place, take(r, 1));
         break;
+    case 7:
+        if (in->kind == CALL_CRYPT_NOTE)
+            in->counter_len = changed_length(r, in->counter_len, MAX_COUNTER);
+        break;
+    case 8:
+        place = take(r, 1);
+        change_byte(c->counter, in->counter_len, place, take(r, 1));
+        break;
     default:
         place = take(r, 2);
         change_byte(c->input, in->input_len, place, take(r, 1));
@@ -86,11 +94,11 @@ static void change_case(recipe *r, test_case *c)
     }
 }
 
-/* The rest of the recipe in place of the input; a book's output follows in length. */
+/* The rest of the recipe in place of the input; the output of a book or a note follows in length. */
 static void give_input(recipe *r, test_case *c)
 {
     size_t len = r->len < MAX_INPUT ? r->len : MAX_INPUT;
-    if (!call_is_book(c->in.kind) && !call_is_block(c->in.kind))
+    if (!call_has_input(c->in.kind))
         return;
     if (len > 0)
         memcpy(c->input, r->at, len);
@@ -98,12 +106,12 @@ static void give_input(recipe *r, test_case *c)
     c->in.out_len = reference_output_length(&c->in);
 }
 
-/* One check or two that are made to fail, or none. Books above the greatest length are not made, see LONG_INPUT. */
+/* One check or two that are made to fail, or none. Books and notes above the greatest length are not made, see LONG_INPUT. */
 static unsigned take_damages(recipe *r, call_kind kind)
 {
     unsigned damages = 1u << take(r, 1) % 16;
     damages |= 1u << take(r, 1) % 16;
-    return damages & checks_of(kind) & ~(1u << CHECK_BOOK_LENGTH);
+    return damages & checks_of(kind) & ~(1u << CHECK_BOOK_LENGTH | 1u << CHECK_NOTE_LENGTH);
 }
 
 int LLVMFuzzerInitialize(int *argc, char ***argv)
