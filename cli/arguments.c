@@ -14,6 +14,7 @@ struct option_text {
 static const struct option_text options[OPTIONS] = {
     [KEY] = {"--key", "FILE", "the key: 16, 24 or 32 raw bytes, as keygen makes them"},
     [KEY_HEX] = {"--key-hex", "FILE", "the key in hexadecimal, with or without one line feed at the end"},
+    [COUNTER] = {"--counter", "HEX", "the note's counter block, 32 hexadecimal digits; each sealing needs another one"},
     [WAY] = {"--way", "N", "1 byte tables, 2 word tables (default), 3 S-boxes computed; the result is the same"},
     [TRIALS] = {"--trials", "CSV", "the trials' numbers of replicates and start blocks"},
     [BITS] = {"--bits", "N", "the length of the new key: 128 (default), 192 or 256"},
@@ -29,6 +30,8 @@ static void print_synopsis(struct text *to, const struct verb *verb)
     text_print(to, "planbook %s", verb->name);
     if (verb->takes[KEY])
         text_print(to, verb->needs_key ? " --key FILE | --key-hex FILE" : " [--key FILE | --key-hex FILE]");
+    if (verb->takes[COUNTER])
+        text_print(to, " %s %s", options[COUNTER].name, options[COUNTER].value);
     for (size_t i = WAY; i < OPTIONS; i++)
         if (verb->takes[i])
             text_print(to, " [%s%s%s]", options[i].name, options[i].value != NULL ? " " : "",
@@ -150,6 +153,14 @@ static void expect_key(const struct verb *verb, const struct arguments *given)
         fail("%s needs a key, by either --key or --key-hex; planbook keygen makes one", verb->name);
 }
 
+static void expect_counter(const struct verb *verb, const struct arguments *given)
+{
+    if (verb->takes[COUNTER] && given->value[COUNTER] == NULL)
+        fail("%s needs a counter block, by --counter: for a new note 32 hexadecimal digits that were never used under its key, for a "
+             "sealed note those that it was sealed from",
+             verb->name);
+}
+
 /* The words after the verb. Answers false where they ask for help. */
 static bool read_words(const struct verb *verb, char **words, struct arguments *given)
 {
@@ -171,6 +182,7 @@ static bool read_words(const struct verb *verb, char **words, struct arguments *
         }
     }
     expect_key(verb, given);
+    expect_counter(verb, given);
     if (count < verb->least_words)
         fail("%s needs more words: %s", verb->name, verb->words);
     return true;

@@ -8,7 +8,7 @@
 #include <sys/stat.h>
 #include <unistd.h>
 
-/* There are at most a key, a plan or book, and trials. */
+/* There are at most a key, a plan, book or note, and trials. */
 static struct stat inputs[3];
 static size_t input_count;
 static bool standard_input_read;

@@ -1,4 +1,4 @@
-/* The calls of the library. It alone decides whether a key, a way or a book is in order. */
+/* The calls of the library. It alone decides whether a key, a way, a book, a counter block or a note is in order. */
 #include "cli.h"
 
 #include <string.h>
@@ -7,6 +7,14 @@ uint32_t call_library(book_call *call, struct bytes key, uint64_t way, struct by
 {
     uint64_t answer = call(key.at, key.len, way, book.at, book.len, out.at, out.len);
     planbook_wipe_stack(); /* the key and the words made of it lie there */
+    return planbook_check(answer);
+}
+
+uint32_t call_for_note(struct bytes key, uint64_t way, struct bytes counter, struct bytes note, struct bytes out)
+{
+    uint64_t answer =
+        planbook_crypt_note(key.at, key.len, way, counter.at, counter.len, note.at, note.len, out.at, out.len);
+    planbook_wipe_stack(); /* as above */
     return planbook_check(answer);
 }
 

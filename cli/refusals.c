@@ -119,6 +119,16 @@ static void refuse_form(const char *name, struct bytes book, uint32_t check, uin
     }
 }
 
+void refuse_note(const char *name, struct bytes counter, uint32_t check)
+{
+    if (check == PLANBOOK_CHECK_BLOCK_LENGTH)
+        refuse(check, "the counter block is %s bytes long, not %d, which are %d hexadecimal digits", grouped(counter.len),
+               PLANBOOK_COUNTER_BYTES, 2 * PLANBOOK_COUNTER_BYTES);
+    if (check == PLANBOOK_CHECK_NOTE_LENGTH)
+        refuse(check, "%s is longer than a note can be, which is %s bytes", name, grouped(PLANBOOK_MAX_NOTE_BYTES));
+    refuse(check, "%s: %s", name, planbook_check_sentence(check));
+}
+
 void refuse_clear_book(const char *name, struct bytes book, uint32_t check)
 {
     refuse_form(name, book, check, PLANBOOK_CLEAR);

@@ -38,6 +38,17 @@ static uint64_t given_way(const struct arguments *given)
     return given->value[WAY] != NULL ? read_number("--way", given->value[WAY]) : PLANBOOK_WAY_WORD_TABLES;
 }
 
+/* Two hexadecimal digits to a byte. How many bytes there must be is for the library to say. */
+static struct bytes given_counter(const struct arguments *given)
+{
+    const char *text = given->value[COUNTER];
+    struct bytes digits = {(uint8_t *)text, strlen(text)};
+    struct bytes counter = new_bytes(digits.len / 2);
+    if (!read_hex(digits, counter.at, counter.len))
+        fail("--counter takes %d hexadecimal digits and nothing else: %s", 2 * PLANBOOK_COUNTER_BYTES, text);
+    return counter;
+}
+
 static bool gives_plan(const struct arguments *given)
 {
     const char *name = given->words[1];
@@ -50,7 +61,8 @@ static bool gives_plan(const struct arguments *given)
 static void expect_no_terminal(const char *output)
 {
     if (is_standard(output) && isatty(STDOUT_FILENO))
-        fail("books and keys are not text: name an output file, or send standard output somewhere else than to a terminal");
+        fail("books, keys and notes may be any bytes, and do not go to a terminal: name an output file, or send standard output "
+             "somewhere else");
 }
 
 static enum existing given_force(const struct arguments *given)
@@ -128,7 +140,17 @@ static void expect_two_places(const struct arguments *given)
         fail("plan and trials cannot both go to standard output");
 }
 
-/* A keyed call; what the library refuses of key and way is told here, what it refuses of the book by refuse_book. */
+/* The end of a keyed call: what the library refused of key and way is told, and the key is wiped. */
+static void end_keyed_call(const struct arguments *given, struct bytes *key, uint32_t check)
+{
+    if (check == PLANBOOK_CHECK_KEY_LENGTH)
+        refuse(check, "the key in %s is %s bytes long, not 16, 24 or 32", key_title(given), grouped(key->len));
+    if (check == PLANBOOK_CHECK_WAY)
+        refuse(check, "--way %s: the ways are 1, 2 and 3", given->value[WAY]);
+    release(key);
+}
+
+/* A keyed call for a book; what the library refuses of the book is told by refuse_book. */
 static struct bytes recode(const struct arguments *given, book_call *call, struct bytes book,
                            void refuse_book(const char *, struct bytes, uint32_t))
 {
@@ -136,13 +158,22 @@ static struct bytes recode(const struct arguments *given, book_call *call, struc
     struct bytes key = given_key(given);
     struct bytes out = new_bytes(book.len);
     uint32_t check = call_library(call, key, way, book, out);
-    if (check == PLANBOOK_CHECK_KEY_LENGTH)
-        refuse(check, "the key in %s is %s bytes long, not 16, 24 or 32", key_title(given), grouped(key.len));
-    if (check == PLANBOOK_CHECK_WAY)
-        refuse(check, "--way %s: the ways are 1, 2 and 3", given->value[WAY]);
-    release(&key);
+    end_keyed_call(given, &key, check);
     if (check != PLANBOOK_ACCEPTED)
         refuse_book(input_title(given->words[0]), book, check);
+    return out;
+}
+
+/* The same for a note, which is sealed and opened by one call. */
+static struct bytes crypt_note(const struct arguments *given, struct bytes counter, struct bytes note)
+{
+    uint64_t way = given_way(given);
+    struct bytes key = given_key(given);
+    struct bytes out = new_bytes(note.len);
+    uint32_t check = call_for_note(key, way, counter, note, out);
+    end_keyed_call(given, &key, check);
+    if (check != PLANBOOK_ACCEPTED)
+        refuse_note(input_title(given->words[0]), counter, check);
     return out;
 }
 
@@ -299,4 +330,16 @@ void run_unpack(const struct arguments *given)
     struct bytes book = clear_book(given->words[0]);
     write_plan(given, book);
     release(&book);
+}
+
+/* Whether the output is the text or the sealed note is not known here, so it is kept like the text. */
+void run_note(const struct arguments *given)
+{
+    struct bytes counter = given_counter(given);
+    expect_no_terminal(given->words[1]);
+    struct bytes note = read_input(given->words[0], PLANBOOK_MAX_NOTE_BYTES);
+    struct bytes out = crypt_note(given, counter, note);
+    release(&counter);
+    release(&note);
+    write_one(given->words[1], out, true, given_force(given));
 }
