@@ -4,12 +4,12 @@
 #include <math.h>
 #include <stdio.h>
 
-/* Stands for the number of records: every book of growth_records. */
+/* Stands for the number of blocks: every book of growth_records. */
 enum { GROWING_BOOKS = 1 };
 
 struct measured {
     enum kind kind;
-    size_t records;
+    size_t blocks;
     uint64_t way;
     enum side side;
 };
@@ -24,6 +24,7 @@ struct limit {
 #define BLOCK(way, side) {ENCRYPT_BLOCK, 0, way, side}
 #define SEALING(way, side) {ENCRYPT_BOOK, LARGEST_BOOK, way, side}
 #define OPENING(way, side) {DECRYPT_BOOK, LARGEST_BOOK, way, side}
+#define NOTE(way, side) {CRYPT_NOTE, LONGEST_NOTE, way, side}
 #define SMALL(kind) {kind, SMALL_BOOK, 2, LIBRARY}
 #define GROWING(kind) {kind, GROWING_BOOKS, 2, LIBRARY}
 
@@ -35,6 +36,9 @@ static const struct limit limits[] = {
     {"way 3, the largest book sealed, library / C", SEALING(3, LIBRARY), SEALING(3, PLAIN), AT_MOST, 1.10},
     {"way 3, one block encrypted, library / C", BLOCK(3, LIBRARY), BLOCK(3, PLAIN), AT_MOST, 1.10},
     {"way 2, the largest book opened, library / C", OPENING(2, LIBRARY), OPENING(2, PLAIN), AT_MOST, 2.00},
+    {"way 1, the longest note, library / C", NOTE(1, LIBRARY), NOTE(1, PLAIN), AT_MOST, 1.10},
+    {"way 2, the longest note, library / C", NOTE(2, LIBRARY), NOTE(2, PLAIN), AT_MOST, 1.10},
+    {"way 3, the longest note, library / C", NOTE(3, LIBRARY), NOTE(3, PLAIN), AT_MOST, 1.10},
     {"way 1, the largest book, opening / sealing", OPENING(1, LIBRARY), SEALING(1, LIBRARY), AT_MOST, 2.10},
     {"way 2, the largest book, opening / sealing", OPENING(2, LIBRARY), SEALING(2, LIBRARY), AT_MOST, 1.15},
     {"way 3, the largest book, opening / sealing", OPENING(3, LIBRARY), SEALING(3, LIBRARY), AT_MOST, 2.10},
@@ -50,7 +54,7 @@ enum { LIMITS = sizeof limits / sizeof limits[0] };
 
 static const double *times(const struct measured *m, size_t key_len)
 {
-    return find_task(m->kind, m->records, key_len, m->way)->ns[m->side];
+    return find_task(m->kind, m->blocks, key_len, m->way)->ns[m->side];
 }
 
 static double worst_of_keys(const struct limit *l)
@@ -69,9 +73,9 @@ static double growth(const struct limit *l)
     double worst = 1;
     for (size_t i = 0; i < GROWTH_SIZES; i++) {
         struct measured below = l->below;
-        below.records = growth_records[i];
+        below.blocks = growth_records[i];
         double ratio = median_ratio(times(&l->above, 16), times(&below, 16))
-                     * (double)below.records / (double)l->above.records;
+                     * (double)below.blocks / (double)l->above.blocks;
         worst = fmax(worst, fmax(ratio, 1 / ratio));
     }
     return worst;
@@ -89,7 +93,7 @@ int print_limits(void)
     int broken = 0;
     printf("| ratio | found | limit | |\n|---|---:|---:|---|\n");
     for (const struct limit *l = limits; l < limits + LIMITS; l++) {
-        double found = l->below.records == GROWING_BOOKS ? growth(l) : worst_of_keys(l);
+        double found = l->below.blocks == GROWING_BOOKS ? growth(l) : worst_of_keys(l);
         int most = l->sense == AT_MOST, holds = most ? found <= l->bound : found >= l->bound;
         broken += !holds;
         printf("| %s | %.3f | at %s %.2f | %s |\n", l->what, found, most ? "most" : "least", l->bound,

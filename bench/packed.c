@@ -6,4 +6,5 @@
 #define plain_decrypt_block packed_decrypt_block
 #define plain_encrypt_book packed_encrypt_book
 #define plain_decrypt_book packed_decrypt_book
+#define plain_crypt_note packed_crypt_note
 #include "plain.c"

@@ -20,6 +20,7 @@
 enum { BYTE_TABLES = 1, WORD_TABLES = 2, BY_RULES = 3 };
 enum { BLOCK = 16, HEAD = 4, ENTRY = 24, IV_AT = 8 };
 enum { MOST_BYTES = 65532, MOST_SHEETS = 64, MOST_RECORDS = 1024, MOST_REPLICATES = 8, REPLICATES_BY_DEFAULT = 4 };
+enum { MOST_NOTE_BYTES = 16384 };
 enum { CLEAR = 1, SEALED = 2 };
 enum { ABREAST = 4 };
 
@@ -133,6 +134,48 @@ INLINE struct quad network4(int way, const uint32_t *keys, int rounds, struct qu
     return (struct quad){t.d, t.a, t.b, t.c};
 }
 
+/* The two rounds of a turn, for blocks abreast. */
+INLINE void first_round(int way, const uint32_t *keys, struct quad *t)
+{
+    t->d ^= f1(way, keys[1], t->c);
+    t->b ^= f0(way, keys[0], t->a);
+}
+
+INLINE void second_round(int way, const uint32_t *keys, struct quad *t)
+{
+    t->a ^= f1(way, keys[3], t->d);
+    t->c ^= f0(way, keys[2], t->b);
+    *t = (struct quad){t->c, t->d, t->a, t->b};
+}
+
+/*
+ * Four blocks through the same rounds: they fill the time that one waits for the
+ * tables. All go through one round before the next. Each has a name, since gcc
+ * keeps an array of them in memory.
+ *
+ * Tried with the longest note: two to eight blocks, all F0 before all F1, a block
+ * through both rounds before the next, F0 or F1 first with each of the 24 orders
+ * of the second round. None was faster by both tables.
+ */
+INLINE void network4_abreast(int way, const uint32_t *keys, int rounds, struct quad t[ABREAST])
+{
+    struct quad t0 = t[0], t1 = t[1], t2 = t[2], t3 = t[3];
+    for (const uint32_t *end = keys + 2 * rounds; keys < end; keys += 4) {
+        first_round(way, keys, &t0);
+        first_round(way, keys, &t1);
+        first_round(way, keys, &t2);
+        first_round(way, keys, &t3);
+        second_round(way, keys, &t0);
+        second_round(way, keys, &t2);
+        second_round(way, keys, &t1);
+        second_round(way, keys, &t3);
+    }
+    t[0] = (struct quad){t0.d, t0.a, t0.b, t0.c};
+    t[1] = (struct quad){t1.d, t1.a, t1.b, t1.c};
+    t[2] = (struct quad){t2.d, t2.a, t2.b, t2.c};
+    t[3] = (struct quad){t3.d, t3.a, t3.b, t3.c};
+}
+
 /* The two rounds of a turn backward. */
 INLINE void first_back(int way, const uint32_t *at, struct quad *t)
 {
@@ -156,11 +199,6 @@ INLINE void network4_back(int way, const uint32_t *keys, int rounds, struct quad
     *t = (struct quad){t->b, t->c, t->d, t->a};
 }
 
-/*
- * Four blocks through the same rounds: they fill the time that one waits for the
- * tables. All go through one round before the next. Each has a name, since gcc
- * keeps an array of them in memory.
- */
 INLINE void network4_back_abreast(int way, const uint32_t *keys, int rounds, struct quad t[ABREAST])
 {
     struct quad t0 = t[0], t1 = t[1], t2 = t[2], t3 = t[3];
@@ -285,20 +323,25 @@ INLINE void expand(int way, const uint8_t *key, size_t key_len, struct schedule 
     }
 }
 
-/* Blocks and CBC chains. A single block is a chain of one from a zero iv. */
+/* Blocks: one, or as many as go abreast. */
 
-INLINE struct quad encrypt(int way, const struct schedule *s, struct quad p)
+INLINE void encrypt(int way, const struct schedule *s, struct quad *p, int lanes)
 {
     const uint32_t *w = s->words;
-    p.b ^= w[0];
-    p.d ^= w[1];
-    p = network4(way, w + 4, s->rounds, p);
-    p.b ^= w[2];
-    p.d ^= w[3];
-    return p;
+    for (int i = 0; i < lanes; i++) {
+        p[i].b ^= w[0];
+        p[i].d ^= w[1];
+    }
+    if (lanes == ABREAST)
+        network4_abreast(way, w + 4, s->rounds, p);
+    else
+        *p = network4(way, w + 4, s->rounds, *p);
+    for (int i = 0; i < lanes; i++) {
+        p[i].b ^= w[2];
+        p[i].d ^= w[3];
+    }
 }
 
-/* One block, or as many as go abreast. */
 INLINE void decrypt(int way, const struct schedule *s, struct quad *c, int lanes)
 {
     const uint32_t *w = s->words;
@@ -316,12 +359,15 @@ INLINE void decrypt(int way, const struct schedule *s, struct quad *c, int lanes
     }
 }
 
+/* CBC chains. A single block is a chain of one from a zero iv. */
+
 INLINE void encrypt_chain(int way, const struct schedule *s, const uint8_t *iv,
                           const uint8_t *in, uint8_t *out, size_t blocks)
 {
     struct quad chain = load_quad(iv);
     for (size_t i = 0; i < blocks; i++) {
-        chain = encrypt(way, s, xor_quads(load_quad(in + BLOCK * i), chain));
+        chain = xor_quads(load_quad(in + BLOCK * i), chain);
+        encrypt(way, s, &chain, 1);
         store_quad(out + BLOCK * i, chain);
     }
 }
@@ -349,6 +395,43 @@ INLINE void decrypt_chain(int way, const struct schedule *s, const uint8_t *iv,
         chain = decrypt_next(way, s, chain, in, out, ABREAST);
     for (; blocks > 0; blocks--, in += BLOCK, out += BLOCK)
         chain = decrypt_next(way, s, chain, in, out, 1);
+}
+
+/*
+ * Counter mode. By the rules blocks abreast gain nothing. The last blocks go one
+ * by one: one more four is faster only by word tables where three or more are left.
+ */
+
+/* The next whole blocks. The counter's last word counts, and goes on at zero. */
+INLINE void crypt_next(int way, const struct schedule *s, struct quad *counter,
+                       const uint8_t *in, uint8_t *out, int lanes)
+{
+    struct quad t[ABREAST];
+    for (int i = 0; i < lanes; i++) {
+        t[i] = *counter;
+        counter->d++;
+    }
+    encrypt(way, s, t, lanes);
+    for (int i = 0; i < lanes; i++)
+        store_quad(out + BLOCK * i, xor_quads(t[i], load_quad(in + BLOCK * i)));
+}
+
+INLINE void crypt_bytes(int way, const struct schedule *s, const uint8_t *first_counter,
+                        const uint8_t *in, uint8_t *out, size_t len)
+{
+    struct quad counter = load_quad(first_counter);
+    if (way != BY_RULES)
+        for (; len >= ABREAST * BLOCK; len -= ABREAST * BLOCK, in += ABREAST * BLOCK, out += ABREAST * BLOCK)
+            crypt_next(way, s, &counter, in, out, ABREAST);
+    for (; len >= BLOCK; len -= BLOCK, in += BLOCK, out += BLOCK)
+        crypt_next(way, s, &counter, in, out, 1);
+    if (len > 0) {
+        uint8_t last[BLOCK];
+        encrypt(way, s, &counter, 1);
+        store_quad(last, counter);
+        for (size_t i = 0; i < len; i++)
+            out[i] = in[i] ^ last[i];
+    }
 }
 
 /* One copy of each for each way, picked once a call or a sheet. */
@@ -381,6 +464,12 @@ static void decrypt_chain_by(uint64_t way, const struct schedule *s, const uint8
                              const uint8_t *in, uint8_t *out, size_t blocks)
 {
     BY_WAY(way, decrypt_chain, s, iv, in, out, blocks);
+}
+
+static void crypt_bytes_by(uint64_t way, const struct schedule *s, const uint8_t *first_counter,
+                           const uint8_t *in, uint8_t *out, size_t len)
+{
+    BY_WAY(way, crypt_bytes, s, first_counter, in, out, len);
 }
 
 /* The checks. Each answers 0 or the number of the first check that fails. */
@@ -579,4 +668,24 @@ uint64_t plain_decrypt_book(const uint8_t *key, size_t key_len, uint64_t way,
     }
     explicit_bzero(work, BLOCK * records);
     return hold ? records : refused(11);
+}
+
+uint64_t plain_crypt_note(const uint8_t *key, size_t key_len, uint64_t way,
+                          const uint8_t *counter, size_t counter_len,
+                          const uint8_t *note, size_t note_len,
+                          uint8_t *out, size_t out_len)
+{
+    int failed = check_key_and_way(key_len, way);
+    if (failed)
+        return refused(failed);
+    if (counter_len != BLOCK)
+        return refused(3);
+    if (out_len != note_len)
+        return refused(4);
+    if (note_len > MOST_NOTE_BYTES)
+        return refused(12);
+    struct schedule s;
+    expand_by(way, key, key_len, &s);
+    crypt_bytes_by(way, &s, counter, note, out, note_len);
+    return note_len;
 }

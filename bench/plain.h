@@ -1,5 +1,5 @@
 /*
- * The six calls of include/planbook.h once more, in plain C: the opponent of
+ * The seven calls of include/planbook.h once more, in plain C: the opponent of
  * the benchmark. Same parameters, same checks, same answers; the header of the
  * library says what they are. Not part of the library and not proved.
  */
@@ -24,6 +24,10 @@ uint64_t plain_encrypt_book(const uint8_t *key, size_t key_len, uint64_t way,
 uint64_t plain_decrypt_book(const uint8_t *key, size_t key_len, uint64_t way,
                             const uint8_t *book, size_t book_len,
                             uint8_t *out, size_t out_len);
+uint64_t plain_crypt_note(const uint8_t *key, size_t key_len, uint64_t way,
+                          const uint8_t *counter, size_t counter_len,
+                          const uint8_t *note, size_t note_len,
+                          uint8_t *out, size_t out_len);
 
 /* Sealing a book by packed.c, which is timed for comparison only. */
 uint64_t packed_encrypt_book(const uint8_t *key, size_t key_len, uint64_t way,

@@ -5,7 +5,7 @@
 #include <math.h>
 #include <stdio.h>
 
-enum { WIDTH = 960, PANEL = 330, LEFT = 60, TOP = 60, HEIGHT = 2 * PANEL + TOP };
+enum { WIDTH = 1120, PANEL = 330, LEFT = 60, TOP = 60, HEIGHT = 2 * PANEL + TOP };
 enum { BARS_MOST = 4, CHART = PANEL - 110 };
 
 static const char *const COLOURS[BARS_MOST] = {"#4477aa", "#ee7733", "#228833", "#aa3377"};
@@ -72,7 +72,7 @@ static void legend(const struct panel *p, const char *const *names, int count)
 static const struct {
     const char *name;
     enum kind kind;
-    size_t records;
+    size_t blocks;
 } SHOWN[] = {
     {"expand a key", EXPAND_KEY, 0},
     {"encrypt a block", ENCRYPT_BLOCK, 0},
@@ -81,6 +81,8 @@ static const struct {
     {"open 24", DECRYPT_BOOK, SMALL_BOOK},
     {"seal 4,088", ENCRYPT_BOOK, LARGEST_BOOK},
     {"open 4,088", DECRYPT_BOOK, LARGEST_BOOK},
+    {"note of 64", CRYPT_NOTE, SHORT_NOTE},
+    {"note of 16,384", CRYPT_NOTE, LONGEST_NOTE},
 };
 enum { SHOWN_COUNT = sizeof SHOWN / sizeof SHOWN[0] };
 
@@ -91,7 +93,7 @@ static void draw_ratios(FILE *f)
     double values[SHOWN_COUNT][WAYS], high = 1.5;
     for (int i = 0; i < SHOWN_COUNT; i++)
         for (int w = 0; w < WAYS; w++) {
-            const struct task *t = find_task(SHOWN[i].kind, SHOWN[i].records, 16, (uint64_t)w + 1);
+            const struct task *t = find_task(SHOWN[i].kind, SHOWN[i].blocks, 16, (uint64_t)w + 1);
             values[i][w] = median_ratio(t->ns[LIBRARY], t->ns[PLAIN]);
             high = fmax(high, ceil(values[i][w] * 2) / 2);
         }

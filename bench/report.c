@@ -27,10 +27,12 @@ static void print_run(const struct disturbance *d)
 static void print_task(const struct task *t)
 {
     static const char *names[] = {"expand a key", "encrypt one block", "decrypt one block",
-                                  "seal a book", "open a book"};
+                                  "seal a book", "open a book", "a note"};
     printf("| %zu | %d | %s", t->key_len, (int)t->way, names[t->kind]);
-    if (t->records > 0)
-        printf(" of %zu records, a record", t->records);
+    if (t->kind == CRYPT_NOTE)
+        printf(" of %zu bytes, a block of 16", 16 * t->blocks);
+    else if (t->blocks > 0)
+        printf(" of %zu records, a record", t->blocks);
     printf(" | %.1f | %.1f | %.3f |\n", task_ns(t, LIBRARY), task_ns(t, PLAIN),
            median_ratio(t->ns[LIBRARY], t->ns[PLAIN]));
 }

@@ -8,17 +8,21 @@ typedef uint64_t expand_call(const uint8_t *key, size_t key_len, uint64_t way,
                              uint8_t *out, size_t out_len);
 typedef uint64_t keyed_call(const uint8_t *key, size_t key_len, uint64_t way,
                             const uint8_t *in, size_t in_len, uint8_t *out, size_t out_len);
+typedef uint64_t note_call(const uint8_t *key, size_t key_len, uint64_t way,
+                           const uint8_t *counter, size_t counter_len,
+                           const uint8_t *note, size_t note_len, uint8_t *out, size_t out_len);
 
 struct calls {
     expand_call *expand_key;
     keyed_call *encrypt_block, *decrypt_block, *encrypt_book, *decrypt_book;
+    note_call *crypt_note;
 };
 
 static const struct calls sides[SIDES] = {
     [LIBRARY] = {planbook_expand_key, planbook_encrypt_block, planbook_decrypt_block,
-                 planbook_encrypt_book, planbook_decrypt_book},
+                 planbook_encrypt_book, planbook_decrypt_book, planbook_crypt_note},
     [PLAIN] = {plain_expand_key, plain_encrypt_block, plain_decrypt_block,
-               plain_encrypt_book, plain_decrypt_book},
+               plain_encrypt_book, plain_decrypt_book, plain_crypt_note},
     [PACKED] = {.encrypt_book = packed_encrypt_book},
 };
 
@@ -51,6 +55,42 @@ static void check_vectors(const struct calls *s)
         }
 }
 
+/*
+ * Held to a note under the 16-byte key, worked out by another program. Its counter
+ * blocks go on at zero within the first four; then come a whole block and a part.
+ */
+
+static const uint8_t vector_counter[16] = {
+    0xf0, 0xf1, 0xf2, 0xf3, 0xf4, 0xf5, 0xf6, 0xf7, 0xf8, 0xf9, 0xfa, 0xfb, 0xff, 0xff, 0xff, 0xfd,
+};
+static const uint8_t vector_note[87] = {
+    0xec, 0xda, 0xf3, 0x8f, 0x36, 0x6c, 0x34, 0x6c, 0xfc, 0x41, 0xa4, 0x1c, 0xae, 0x25, 0xfe, 0xcf,
+    0xe1, 0xd8, 0x2f, 0x64, 0xda, 0x11, 0x96, 0xcb, 0x3d, 0x32, 0x9b, 0x84, 0x64, 0xb4, 0x1f, 0x05,
+    0xc1, 0x81, 0x8f, 0xcd, 0x6b, 0x4e, 0x7e, 0xfd, 0x2f, 0xb0, 0x5c, 0xbc, 0x11, 0xc9, 0x13, 0x12,
+    0xeb, 0xea, 0x77, 0x52, 0xdd, 0xa7, 0xb6, 0x15, 0x25, 0xad, 0xe5, 0x0f, 0x75, 0xa0, 0x28, 0xe5,
+    0x22, 0xba, 0x41, 0x0c, 0x48, 0x3a, 0xd0, 0x2f, 0xc5, 0x39, 0x37, 0x5d, 0x65, 0xae, 0xf2, 0xf7,
+    0x1d, 0xcc, 0xcf, 0x02, 0x22, 0x09, 0x0c,
+};
+
+static size_t make_note(uint8_t *note, size_t len)
+{
+    for (size_t i = 0; i < len; i++)
+        note[i] = (uint8_t)i;
+    return len;
+}
+
+static void check_note(const struct calls *s)
+{
+    enum { LEN = sizeof vector_note };
+    uint8_t note[LEN], out[LEN], back[LEN];
+    make_note(note, LEN);
+    for (uint64_t way = 1; way <= WAYS; way++)
+        if (s->crypt_note(vector_key, 16, way, vector_counter, 16, note, LEN, out, LEN) != LEN
+            || s->crypt_note(vector_key, 16, way, vector_counter, 16, out, LEN, back, LEN) != LEN
+            || memcmp(out, vector_note, LEN) != 0 || memcmp(back, note, LEN) != 0)
+            stop("a side does not give the note's vector");
+}
+
 static void check_constants(void)
 {
     for (size_t k = 0; k < KEY_LENGTHS; k++) {
@@ -68,6 +108,8 @@ void check_sides(void)
 {
     check_vectors(&sides[LIBRARY]);
     check_vectors(&sides[PLAIN]);
+    check_note(&sides[LIBRARY]);
+    check_note(&sides[PLAIN]);
     check_constants();
 }
 
@@ -123,8 +165,10 @@ void make_ready(const struct task *t)
     }
     memcpy(input, vector_clear, 16);
     input_len = output_len = 16;
-    if (t->records > 0)
-        input_len = output_len = make_book(input, t->records);
+    if (t->kind == CRYPT_NOTE)
+        input_len = output_len = make_note(input, 16 * t->blocks);
+    else if (t->blocks > 0)
+        input_len = output_len = make_book(input, t->blocks);
     if (t->kind == DECRYPT_BOOK) {
         plain_encrypt_book(vector_key, t->key_len, PLANBOOK_WAY_WORD_TABLES, input, input_len,
                            output[0], input_len);
@@ -145,8 +189,10 @@ uint64_t call(const struct task *t, enum side side)
         return s->decrypt_block(vector_key, t->key_len, t->way, input, input_len, out, output_len);
     case ENCRYPT_BOOK:
         return s->encrypt_book(vector_key, t->key_len, t->way, input, input_len, out, output_len);
-    default:
+    case DECRYPT_BOOK:
         return s->decrypt_book(vector_key, t->key_len, t->way, input, input_len, out, output_len);
+    default:
+        return s->crypt_note(vector_key, t->key_len, t->way, vector_counter, 16, input, input_len, out, output_len);
     }
 }
 

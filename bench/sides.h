@@ -4,7 +4,7 @@
 
 #include "tasks.h"
 
-/* Stops unless the sides give the published test vectors and the same constants. */
+/* Stops unless the sides give the published test vectors, a note worked out elsewhere and the same constants. */
 void check_sides(void);
 
 /* Makes the buffers ready that the calls of a task work on. */

@@ -16,11 +16,11 @@ void stop(const char *why)
     exit(1);
 }
 
-const struct task *find_task(enum kind kind, size_t records, size_t key_len, uint64_t way)
+const struct task *find_task(enum kind kind, size_t blocks, size_t key_len, uint64_t way)
 {
     for (size_t i = 0; i < task_count; i++) {
         const struct task *t = &tasks[i];
-        if (t->kind == kind && t->records == records && t->key_len == key_len && t->way == way)
+        if (t->kind == kind && t->blocks == blocks && t->key_len == key_len && t->way == way)
             return t;
     }
     stop("a task is missing");
@@ -29,14 +29,14 @@ const struct task *find_task(enum kind kind, size_t records, size_t key_len, uin
 
 int has_side(const struct task *t, enum side side)
 {
-    return side != PACKED || (t->kind == ENCRYPT_BOOK && t->records == LARGEST_BOOK && t->way != 2);
+    return side != PACKED || (t->kind == ENCRYPT_BOOK && t->blocks == LARGEST_BOOK && t->way != 2);
 }
 
-static void add_task(enum kind kind, size_t records, size_t key_len, uint64_t way)
+static void add_task(enum kind kind, size_t blocks, size_t key_len, uint64_t way)
 {
     struct task *t = &tasks[task_count++];
     t->kind = kind;
-    t->records = records;
+    t->blocks = blocks;
     t->key_len = key_len;
     t->way = way;
 }
@@ -52,6 +52,8 @@ void list_tasks(void)
             add_task(DECRYPT_BOOK, SMALL_BOOK, key_len, way);
             add_task(ENCRYPT_BOOK, LARGEST_BOOK, key_len, way);
             add_task(DECRYPT_BOOK, LARGEST_BOOK, key_len, way);
+            add_task(CRYPT_NOTE, SHORT_NOTE, key_len, way);
+            add_task(CRYPT_NOTE, LONGEST_NOTE, key_len, way);
         }
     for (size_t i = 0; i < GROWTH_SIZES; i++) {
         add_task(ENCRYPT_BOOK, growth_records[i], 16, 2);
@@ -83,5 +85,5 @@ double median_ratio(const double *above, const double *below)
 
 double task_ns(const struct task *t, enum side side)
 {
-    return median(t->ns[side]) / (t->records > 0 ? (double)t->records : 1.0);
+    return median(t->ns[side]) / (t->blocks > 0 ? (double)t->blocks : 1.0);
 }
