@@ -1,5 +1,5 @@
 /*
- * The worked book of docs/FORMAT.md: its fields, and its bytes against the library and the reference.
+ * The worked book and the worked note of docs/FORMAT.md: the fields, and the bytes against the library and the reference.
  *
  *   format FORMAT.md KEY.hex
  */
@@ -133,29 +133,74 @@ static void expect_call(call_kind kind, const byte_row *key, const byte_row *fro
     expect_bytes(call_name(kind), to->bytes, last_output(), BOOK_BYTES);
 }
 
+static void expect_encrypted(const char *what, const reference_key *key, const uint8_t *block, const uint8_t *encrypted)
+{
+    uint8_t due[REFERENCE_BLOCK];
+    reference_encrypt_block(key, block, due);
+    expect_bytes(what, encrypted, due, REFERENCE_BLOCK);
+}
+
+static void check_book(const byte_row *key, const reference_key *expanded)
+{
+    byte_row clear = read_book(clear_fields + CONTENTS_FIELDS, CLEAR_FIELDS - CONTENTS_FIELDS);
+    byte_row block = read_bytes(find_line("    block "));
+    byte_row sealed = read_book(&sealed_record, SEALED_FIELDS - CONTENTS_FIELDS);
+    uint8_t chained[REFERENCE_BLOCK];
+    if (block.len != REFERENCE_BLOCK)
+        fail("the block is not 16 bytes long");
+    expect_call(CALL_ENCRYPT_BOOK, key, &clear, &sealed);
+    expect_call(CALL_DECRYPT_BOOK, key, &sealed, &clear);
+    for (size_t i = 0; i < REFERENCE_BLOCK; i++)
+        chained[i] = clear.bytes[28 + i] ^ clear.bytes[12 + i];
+    expect_bytes("block", block.bytes, chained, REFERENCE_BLOCK);
+    expect_encrypted("sealed record", expanded, block.bytes, sealed.bytes + 28);
+}
+
+/* One of the note's counter blocks, and it encrypted. */
+static byte_row check_counter(const reference_key *expanded)
+{
+    byte_row counter = read_bytes(find_line("    counter "));
+    byte_row encrypted = read_bytes(find_line("    encrypted "));
+    if (counter.len != COUNTER_LENGTH || encrypted.len != REFERENCE_BLOCK)
+        fail("a counter block, or it encrypted, is not 16 bytes long");
+    expect_encrypted("encrypted counter block", expanded, counter.bytes, encrypted.bytes);
+    return counter;
+}
+
+static void check_note(const byte_row *key, const reference_key *expanded)
+{
+    static const char words[] = "lodged after the storm";
+    byte_row text = read_bytes(find_line("    text "));
+    byte_row first = check_counter(expanded), second = check_counter(expanded);
+    byte_row sealed = read_bytes(find_line("    sealed "));
+    call_input in = {CALL_CRYPT_NOTE, key->bytes, key->len, 1, text.bytes, text.len, text.len, first.bytes, first.len};
+    if (text.len != strlen(words) || memcmp(text.bytes, words, text.len) != 0 || sealed.len != text.len)
+        fail("the text is not '%s', or the sealed note is not as long", words);
+    compare_ways(&in, text.len, "worked note");
+    expect_bytes("sealed note", sealed.bytes, last_output(), sealed.len);
+    in.counter = second.bytes;
+    in.input += REFERENCE_BLOCK;
+    in.input_len = in.out_len = text.len - REFERENCE_BLOCK;
+    compare_ways(&in, in.input_len, "worked note, from its second counter block");
+    expect_bytes("rest of the sealed note", sealed.bytes + REFERENCE_BLOCK, last_output(), in.out_len);
+}
+
 int main(int argc, char **argv)
 {
-    byte_row key, clear, block, sealed;
-    uint8_t chained[REFERENCE_BLOCK], encrypted[REFERENCE_BLOCK];
+    byte_row key;
     reference_key expanded;
     start_test("format", 1, argv);
     if (argc != 3 || (page = fopen(argv[1], "r")) == NULL)
         fail("usage: format FORMAT.md KEY.hex");
     find_line("## A worked book");
     key = read_bytes(find_line("    key "));
-    clear = read_book(clear_fields + CONTENTS_FIELDS, CLEAR_FIELDS - CONTENTS_FIELDS);
-    block = read_bytes(find_line("    block "));
-    sealed = read_book(&sealed_record, SEALED_FIELDS - CONTENTS_FIELDS);
-    if (key.len != 16 || block.len != 16 || memcmp(key.bytes, read_key_file(argv[2]).bytes, 16) != 0)
-        fail("the key is not that of %s, or it or the block is not 16 bytes long", argv[2]);
-    expect_call(CALL_ENCRYPT_BOOK, &key, &clear, &sealed);
-    expect_call(CALL_DECRYPT_BOOK, &key, &sealed, &clear);
-    for (size_t i = 0; i < REFERENCE_BLOCK; i++)
-        chained[i] = clear.bytes[28 + i] ^ clear.bytes[12 + i];
-    expect_bytes("block", block.bytes, chained, REFERENCE_BLOCK);
+    if (key.len != 16 || memcmp(key.bytes, read_key_file(argv[2]).bytes, 16) != 0)
+        fail("the key is not that of %s, or not 16 bytes long", argv[2]);
     reference_expand_key(&expanded, key.bytes, key.len);
-    reference_encrypt_block(&expanded, block.bytes, encrypted);
-    expect_bytes("sealed record", sealed.bytes + 28, encrypted, REFERENCE_BLOCK);
-    printf("format: passed: the worked book, %d fields and two times %d bytes\n", CLEAR_FIELDS + SEALED_FIELDS, BOOK_BYTES);
+    check_book(&key, &expanded);
+    find_line("## A worked note");
+    check_note(&key, &expanded);
+    printf("format: passed: the worked book, %d fields and two times %d bytes, and the worked note\n",
+           CLEAR_FIELDS + SEALED_FIELDS, BOOK_BYTES);
     return 0;
 }
