@@ -40,7 +40,8 @@ fn write_four(
     note_blocks::add_block(d, note, out, fourth);
 }
 
-// The whole blocks of the note by fours, as long as there are four; how many were written.
+// By word tables, the whole blocks of the note by fours, as long as there are four; by other tables, which leave nothing to wait for, none. How many were
+// written.
 fn write_fours(
     words: &[[u32; 256]],
     bytes: &[[u8; 256]],
@@ -53,6 +54,9 @@ fn write_fours(
     requires { ⌜ Ready (now w) counter (now note) (now out) ⌝ }
     ensures { λ r. ⌜ (16 * r ≤ length (now (note .entry))) × Filled (16 * r) (crypted (now (w .entry)) counter (now (note .entry))) (now (out .exit)) ⌝ }
 {
+    if words.len() != 8 {
+        return 0;
+    }
     let mut left = note.len();
     let mut i = 0;
     while 64 <= left {
@@ -63,26 +67,7 @@ fn write_fours(
     i
 }
 
-// How many blocks are written before the rest goes one by one: by word tables all fours, by other tables, which leave nothing to wait for, none.
-fn begin(
-    words: &[[u32; 256]],
-    bytes: &[[u8; 256]],
-    w: &[u32],
-    counter: [u32; 4],
-    note: &[u8],
-    out: &mut [u8],
-) -> u32
-    requires { ⌜ Lent (now words) (now bytes) ⌝ }
-    requires { ⌜ Ready (now w) counter (now note) (now out) ⌝ }
-    ensures { λ r. ⌜ (16 * r ≤ length (now (note .entry))) × Filled (16 * r) (crypted (now (w .entry)) counter (now (note .entry))) (now (out .exit)) ⌝ }
-{
-    if words.len() == 8 {
-        return write_fours(words, bytes, w, counter, note, out);
-    }
-    0
-}
-
-// The whole blocks that are left, from the block that `begin` stopped at; how many are written now.
+// All whole blocks, those behind the fours one by one; how many they are.
 fn write_blocks(
     words: &[[u32; 256]],
     bytes: &[[u8; 256]],
@@ -95,7 +80,7 @@ fn write_blocks(
     requires { ⌜ Ready (now w) counter (now note) (now out) ⌝ }
     ensures { λ r. ⌜ (16 * r ≤ length (now (note .entry))) × (length (now (note .entry)) < 16 * r + 16) × Filled (16 * r) (crypted (now (w .entry)) counter (now (note .entry))) (now (out .exit)) ⌝ }
 {
-    let mut i = begin(words, bytes, w, counter, note, out);
+    let mut i = write_fours(words, bytes, w, counter, note, out);
     let mut at = 16 * i as usize;
     while 16 <= note.len() - at {
         let s = block::encrypt_words(words, bytes, w, note_blocks::counter_row(counter, i));

@@ -19,16 +19,17 @@ prefix = rising 12 0x10
 abbrev pub counterFrom : ℕ → List ℕ
 counterFrom n = prefix ++ toDigits 256 4 n
 
--- A note of 33 bytes, and what it is encrypted to from the last number on: its three counter blocks count ffffffff, 0 and 1. The toy has each rotated by
+-- A note of 64 bytes, and what it is encrypted to from the last number on: its four counter blocks count ffffffff, 0, 1 and 2. The toy has each rotated by
 -- one place, so that its first byte, 10, comes last.
 abbrev pub text : List ℕ
-text = rising 33 0x80
+text = rising 64 0x80
 
 abbrev pub encryptedText : List ℕ
 encryptedText =
     (0x91 ∷ 0x93 ∷ 0x91 ∷ 0x97 ∷ 0x91 ∷ 0x93 ∷ 0x91 ∷ 0x9f ∷ 0x91 ∷ 0x93 ∷ 0x91 ∷ 0x74 ∷ 0x73 ∷ 0x72 ∷ 0x71 ∷ 0x9f ∷ [])
     ++ (0x81 ∷ 0x83 ∷ 0x81 ∷ 0x87 ∷ 0x81 ∷ 0x83 ∷ 0x81 ∷ 0x8f ∷ 0x81 ∷ 0x83 ∷ 0x81 ∷ 0x9b ∷ 0x9c ∷ 0x9d ∷ 0x9e ∷ 0x8f ∷ [])
-    ++ (0xb1 ∷ [])
+    ++ (0xb1 ∷ 0xb3 ∷ 0xb1 ∷ 0xb7 ∷ 0xb1 ∷ 0xb3 ∷ 0xb1 ∷ 0xbf ∷ 0xb1 ∷ 0xb3 ∷ 0xb1 ∷ 0xab ∷ 0xac ∷ 0xad ∷ 0xaf ∷ 0xbf ∷ [])
+    ++ (0xa1 ∷ 0xa3 ∷ 0xa1 ∷ 0xa7 ∷ 0xa1 ∷ 0xa3 ∷ 0xa1 ∷ 0xaf ∷ 0xa1 ∷ 0xa3 ∷ 0xa1 ∷ 0xbb ∷ 0xbc ∷ 0xbd ∷ 0xbc ∷ 0xaf ∷ [])
 
 abbrev pub crypted : List ℕ → List ℕ
 crypted note = ctr toyEncrypt (counterFrom 0xffffffff) note
@@ -42,18 +43,23 @@ noteCases =
     ∷ (counterBlock (replicate 12 0xff ++ (0xff ∷ 0xff ∷ 0xff ∷ 0xff ∷ [])) 1 gives replicate 12 0xff ++ (0 ∷ 0 ∷ 0 ∷ 0 ∷ []))
     ∷ (counterBlock (counterFrom 0x010203ff) 1 gives prefix ++ (1 ∷ 2 ∷ 4 ∷ 0 ∷ []))
     ∷ (counterBlock (counterFrom 0x01fffc01) 1023 gives prefix ++ (2 ∷ 0 ∷ 0 ∷ 0 ∷ []))
-    -- notes of 0, 1, 15, 16, 17 and 33 bytes
+    -- the blocks of notes of 0, 1, 15, 16, 17, 33 and 64 bytes; two counter blocks end to end, each rotated, and no more
+    ∷ (blockCount [] ∷ blockCount (take 1 text) ∷ blockCount (take 15 text) ∷ blockCount (take 16 text) ∷ blockCount (take 17 text) ∷ blockCount (take 33 text) ∷ blockCount text ∷ []
+    gives 0 ∷ 1 ∷ 1 ∷ 1 ∷ 2 ∷ 3 ∷ 4 ∷ [])
+    ∷ (keystream toyEncrypt (counterFrom 6) 1 2 gives rising 11 0x11 ++ (0 ∷ 0 ∷ 0 ∷ 7 ∷ 0x10 ∷ []) ++ rising 11 0x11 ++ (0 ∷ 0 ∷ 0 ∷ 8 ∷ 0x10 ∷ []))
+    -- notes of these lengths
     ∷ (crypted [] gives [])
     ∷ (crypted (0x80 ∷ []) gives 0x91 ∷ [])
     ∷ (crypted (take 15 text) gives take 15 encryptedText)
     ∷ (crypted (take 16 text) gives take 16 encryptedText)
     ∷ (crypted (take 17 text) gives take 17 encryptedText)
+    ∷ (crypted (take 33 text) gives take 33 encryptedText)
     ∷ (crypted text gives encryptedText)
     -- and back, through the call: the count is that of the bytes
     ∷ (answer (cryptNoteBy [] toyEncrypt (counterFrom 0xffffffff) text text) ∷ after text (cryptNoteBy [] toyEncrypt (counterFrom 0xffffffff) text text)
-    gives 33 ∷ encryptedText)
+    gives 64 ∷ encryptedText)
     ∷ (answer (cryptNoteBy [] toyEncrypt (counterFrom 0xffffffff) encryptedText text) ∷ after text (cryptNoteBy [] toyEncrypt (counterFrom 0xffffffff) encryptedText text)
-    gives 33 ∷ text)
+    gives 64 ∷ text)
     ∷ []
 
 pub noteCases-hold : AllHold noteCases

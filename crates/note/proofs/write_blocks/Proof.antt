@@ -17,7 +17,7 @@ abbrev μ-loop : tie.MeasureT-loop
 μ-loop words bytes w counter note out₀ i₀ at₀ out i at = length note - at
 
 loop-holds : tie.Need-loop-holds Inv-loop μ-loop
-loop-holds c = (refl, c .before .before .begin .ensures .0, c .before .before .begin .ensures .1)
+loop-holds c = (refl, c .before .before .write-fours .ensures .0, c .before .before .write-fours .ensures .1)
 
 add-block-requires : tie.Need-add-block-requires Inv-loop μ-loop
 add-block-requires c κs =

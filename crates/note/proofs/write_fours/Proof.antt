@@ -14,21 +14,26 @@ Inv-loop words bytes w counter note out₀ left₀ i₀ out left i = (16 * i + l
 abbrev μ-loop : tie.MeasureT-loop
 μ-loop words bytes w counter note out₀ left₀ i₀ out left i = left
 
+returns : tie.Need-returns Inv-loop μ-loop
+returns c =
+    let s : tie.Start Inv-loop μ-loop = c .before .before .before .before in
+    (search needs, filled-start (s .args .w .now) (s .args .counter) (s .args .note .now) (s .pre .1 .room))
+
 loop-holds : tie.Need-loop-holds Inv-loop μ-loop
 loop-holds c =
-    let s : tie.Start Inv-loop μ-loop = c .before .before .before in
+    let s : tie.Start Inv-loop μ-loop = c .before .before .before .before in
     (omega arith, filled-start (s .args .w .now) (s .args .counter) (s .args .note .now) (s .pre .1 .room))
 
 write-four-requires : tie.Need-write-four-requires Inv-loop μ-loop
 write-four-requires c κs =
     let a : tie.At-loop Inv-loop μ-loop = c .before .before in
-    let s : tie.Start Inv-loop μ-loop = c .before .before .before .before .before .before in
+    let s : tie.Start Inv-loop μ-loop = c .before .before .before .before .before .before .before in
     (s .pre .0, (ready-again (s .args .w .now) (s .args .counter) (s .args .note .now) (s .pre .1) (a .loop .inv .1), omega (arith, a .loop .inv .0)))
 
 add-i : tie.Need-add-i Inv-loop μ-loop
 add-i c =
     let a : tie.At-loop Inv-loop μ-loop = c .before .before .before .before .before in
-    let s : tie.Start Inv-loop μ-loop = c .before .before .before .before .before .before .before .before .before in
+    let s : tie.Start Inv-loop μ-loop = c .before .before .before .before .before .before .before .before .before .before in
     omega (arith, a .loop .inv .0, s .pre .1 .short)
 
 loop-again : tie.Need-loop-again Inv-loop μ-loop
@@ -39,13 +44,13 @@ loop-again c =
 
 same-length : tie.Need-same-length Inv-loop μ-loop
 same-length c =
-    let s : tie.Start Inv-loop μ-loop = c .before .before .before .before .before in
+    let s : tie.Start Inv-loop μ-loop = c .before .before .before .before .before .before in
     filled-size (s .args .w .now) (s .args .counter) (s .args .note .now) (c .before .loop .inv .1) ∙ sym (s .pre .1 .room)
 
-returns : tie.Need-returns Inv-loop μ-loop
-returns c = (omega (arith, c .before .loop .inv .0), c .before .loop .inv .1)
+returns-2 : tie.Need-returns-2 Inv-loop μ-loop
+returns-2 c = (omega (arith, c .before .loop .inv .0), c .before .loop .inv .1)
 
 pub write-fours-spec : {M : Type 1} → statement M
 write-fours-spec =
     tie.close
-    (tie.spec Inv-loop μ-loop loop-holds write-four-requires add-i (λ c. search needs) loop-again same-length returns)
+    (tie.spec Inv-loop μ-loop returns loop-holds write-four-requires add-i (λ c. search needs) loop-again same-length returns-2)
