@@ -27,7 +27,7 @@ DEB_TREE := $(DEB)/planbook-$(VERSION)
 .DELETE_ON_ERROR:
 
 help:
-	@echo "make demo      build what is missing, then seal, label, open and show the plan in examples/"
+	@echo "make demo      build what is missing, then seal, label, open and show the plan in examples/, and a note"
 	@echo "make test      prove everything from nothing and run all tests; make check is the same"
 	@echo "make lib       the proved library, $(LIBRARY)"
 	@echo "make command   the command, $(COMMAND)"

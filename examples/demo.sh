@@ -1,6 +1,6 @@
 #!/bin/sh
 # The main job from end to end, on the plan beside this script: a key, a plan sealed in one step, its digest compared, its labels,
-# the plan opened again. Then the steps one by one, by every way and by the C program of the README.
+# the plan opened again; a note sealed and opened. Then the steps one by one, by every way and by the C program of the README.
 # usage: demo.sh COMMAND PROGRAM FOLDER  (the command planbook, the program seal_book, a folder for the books)
 set -eu
 [ $# -eq 3 ] || { echo "usage: demo.sh COMMAND PROGRAM FOLDER" >&2; exit 2; }
@@ -49,6 +49,17 @@ echo "The plan is the same, byte for byte."
 say "A label read in the field: which plot is it?"
 label=$("$command" labels "$books/sealed.book" | sed -n '12s/.* //p')
 run find --key "$books/season.key" "$books/sealed.book" "$label"
+
+say "A scorer's note: a key for the notes alone, and a counter block that is drawn for this note and kept beside it"
+run keygen "$books/notes.key"
+counter=$(od -An -v -tx1 -N12 /dev/urandom | tr -d ' \n')00000000
+run note --key "$books/notes.key" --counter "$counter" "$here/note.txt" "$books/note.sealed"
+echo "$counter" >"$books/note.counter"
+
+say "The same operation opens it, by another way too"
+run note --key "$books/notes.key" --counter "$(cat "$books/note.counter")" --way 3 "$books/note.sealed" "$books/note.txt"
+same "$books/note.txt" "$here/note.txt"
+echo "The note is the same, byte for byte."
 
 say "Step by step: the clear book by itself. The file of trials has the start blocks too now, so the very same book is made again"
 run pack --trials "$books/trials.csv" "$books/plan.csv" "$books/clear.book"

@@ -96,6 +96,7 @@ test_demo() {
     holds "the demo" make -s demo CLI_DIR="$built" >"$work/demo.txt" 2>&1
     holds "the demo opens its book" grep -q "The opened book is the clear one" "$work/demo.txt"
     holds "the demo goes from a plan to a plan" grep -q "The plan is the same, byte for byte" "$work/demo.txt"
+    holds "the demo seals a note and opens it" grep -q "The note is the same, byte for byte" "$work/demo.txt"
     holds "the demo compares digests" grep -q "sealed.book: OK" "$work/demo.txt"
     holds "the demo has no warning" [ -z "$(grep warning "$work/demo.txt")" ]
     cd "$work" || exit 2
