@@ -72,7 +72,8 @@
  *   note, and have a unique index on key and these bytes refuse a second use. Good for some millions of notes a key.
  *
  * Use a key for the notes alone: whoever may read the notes then cannot open the book, and no block of a book is a
- * counter block.
+ * counter block. And seal or open no note for others from a counter block that they name: what they get back tells them
+ * the encrypted counter blocks, and with these they read every note that was sealed from the same ones.
  *
  * WHAT IS NOT PROMISED
  *
