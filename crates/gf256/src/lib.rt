@@ -1,13 +1,17 @@
 // Arithmetic on bytes as elements of GF(2^8) modulo z^8 + z^4 + z^3 + z^2 + 1.
+pub mod all_bits;
+
 ghost use mathlib.Core.Path.{_≡_};
-ghost use Prim.Native.Nat.{_*_, _%_};
+ghost use Prim.Native.Nat.{_*_, _%_, _<_};
+ghost use Rattle.clefia_spec.specs.Words.{_⊕_};
 ghost use Rattle.clefia_spec.specs.Field.{double8, product};
 
-// x times z. The polynomial's highest bit goes with the bit that the doubling pushes out, so 1d is what is left of 11d.
+// x times z. The polynomial's highest bit goes with the bit that the doubling pushes out, so 1d is what is left of 11d. Which of
+// the two comes first was measured (DECISIONS).
 pub fn double(x: u8) -> u8
     ensures { λ r. ⌜ r ≡ double8 x ⌝ }
 {
-    (x / 128 * 0x1d) ^ (x % 128 * 2)
+    (x % 128 * 2) ^ (x / 128 * 0x1d)
 }
 
 // x where the last bit of y is set, else 0.
@@ -17,18 +21,33 @@ pub fn last_bit_times(y: u8, x: u8) -> u8
     y % 2 * x
 }
 
-// x times y, by doublings of x through the eight bits of the multiplier y.
+// What a turn adds to the sum: x where the last bit of y is set. It asks that a set bit be left in y, so a loop that makes a turn without need is not proved.
+fn add_last_bit(sum: u8, x: u8, y: u8) -> u8
+    requires { ⌜ 0 < y ⌝ }
+    ensures { λ r. ⌜ r ≡ y % 2 * x ⊕ sum ⌝ }
+{
+    last_bit_times(y, x) ^ sum
+}
+
+// x times y, by doublings of x through the bits of the multiplier y, lowest first, until no set bit is left. The turns are counted for the compiler's sake: it
+// takes a loop apart only where it knows how long it can get, and then a known multiplier costs its own turns and no test (DECISIONS).
 pub fn product(x: u8, y: u8) -> u8
     ensures { λ r. ⌜ r ≡ product x y ⌝ }
 {
+    if y == 0 {
+        return 0;
+    }
     let mut sum: u8 = 0;
     let mut shifted = x;
     let mut bits = y;
     let mut left: u8 = 8;
     while 0 < left {
-        sum = last_bit_times(bits, shifted) ^ sum;
-        shifted = double(shifted);
+        sum = add_last_bit(sum, shifted, bits);
         bits = bits / 2;
+        if bits == 0 {
+            return sum;
+        }
+        shifted = double(shifted);
         left -= 1;
     }
     sum

@@ -6,8 +6,8 @@ ghost use lib.ListN.{getD};
 ghost use Rattle.clefia_spec.specs.Field.{double4, inverse};
 ghost use Rattle.clefia_spec.specs.Sbox.{s0, s1};
 ghost use Rattle.sbox.specs.Rules.{fourBitBoxes, FourBits, addColumns};
+use gf256::all_bits::product;
 use gf256::last_bit_times;
-use gf256::product;
 
 // The four-bit boxes SS0 to SS3.
 const BOXES: [[u8; 16]; 4] = [
