@@ -1,7 +1,9 @@
 /*
- * The library beside plain C, by turns, in one run. Before anything is timed,
- * the sides are held to the published test vectors, and each task's outputs to
- * each other. Prints Markdown; bench/run makes a page of it.
+ * The library beside plain C, by turns, in one run; with --beside it is beside
+ * the library of an earlier commit, which bench/run has linked in place of plain
+ * C. Before anything is timed, the sides are held to the published test vectors,
+ * and each task's outputs to each other. Prints Markdown; bench/run makes a page
+ * of it.
  */
 #include "core.h"
 #include "measure.h"
@@ -13,17 +15,19 @@
 #include <string.h>
 
 struct options {
-    int strict;
+    int strict, beside;
     double patience_ns;
     const char *svg;
 };
 
 static struct options read_options(int argc, char **argv)
 {
-    struct options o = {0, 120e9, NULL};
+    struct options o = {0, 0, 120e9, NULL};
     for (int i = 1; i < argc; i++)
         if (strcmp(argv[i], "--strict") == 0)
             o.strict = 1;
+        else if (strcmp(argv[i], "--beside") == 0)
+            o.beside = 1;
         else if (strcmp(argv[i], "--turns") == 0 && i + 1 < argc)
             turns = atoi(argv[++i]);
         else if (strcmp(argv[i], "--patience") == 0 && i + 1 < argc)
@@ -33,7 +37,7 @@ static struct options read_options(int argc, char **argv)
         else
             turns = 0;
     if (turns < 1 || turns > MOST_TURNS)
-        stop("usage: bench [--turns N] [--patience SECONDS] [--svg FILE] [--strict]");
+        stop("usage: bench [--turns N] [--patience SECONDS] [--svg FILE] [--strict | --beside]");
     return o;
 }
 
@@ -43,8 +47,13 @@ int main(int argc, char **argv)
     struct scale scales[MOST_SCALES];
     take_next_cpu();
     check_sides();
+    draw_inputs();
     list_tasks();
     struct disturbance d = measure_tasks(o.patience_ns);
+    if (o.beside) {
+        print_beside(&d);
+        return 0;
+    }
     size_t scale_count = measure_scales(scales);
     int broken = print_report(&d, scales, scale_count);
     if (o.svg != NULL && !plot(o.svg, scales, scale_count))

@@ -11,10 +11,10 @@ static const double TURN_NS = 4e5;
 static double time_calls(const struct task *t, enum side side)
 {
     if (t->repeats > 1)
-        call(t, side);
+        call(t, side, t->repeats);
     double start = now_ns();
     for (size_t i = 0; i < t->repeats; i++)
-        call(t, side);
+        call(t, side, i);
     return (now_ns() - start) / (double)t->repeats;
 }
 

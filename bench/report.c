@@ -37,10 +37,9 @@ static void print_task(const struct task *t)
            median_ratio(t->ns[LIBRARY], t->ns[PLAIN]));
 }
 
-static void print_tasks(void)
+static void print_tasks(const char *columns)
 {
-    printf("| key bytes | way | measured | library ns | plain C ns | library / C |\n"
-           "|---:|---:|---|---:|---:|---:|\n");
+    printf("| key bytes | way | measured | %s |\n|---:|---:|---|---:|---:|---:|\n", columns);
     for (size_t i = 0; i < MAIN_TASKS; i++)
         print_task(&tasks[i]);
 }
@@ -91,7 +90,7 @@ int print_report(const struct disturbance *d, const struct scale *scales, size_t
     print_machine();
     print_run(d);
     printf("\n");
-    print_tasks();
+    print_tasks("library ns | plain C ns | library / C");
     printf("\nPlain C with four bytes doubled in one word, which no limit is about:\n\n");
     print_packed();
     printf("\nFor scale, what a user might take instead:\n\n");
@@ -100,4 +99,12 @@ int print_report(const struct disturbance *d, const struct scale *scales, size_t
     print_growth();
     printf("\nThe limits, for the worst of the three key lengths, growth for 16 bytes:\n\n");
     return print_limits();
+}
+
+void print_beside(const struct disturbance *d)
+{
+    print_machine();
+    print_run(d);
+    printf("\n");
+    print_tasks("now, ns | before, ns | now / before");
 }

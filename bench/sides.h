@@ -7,12 +7,16 @@
 /* Stops unless the sides give the published test vectors, a note worked out elsewhere and the same constants. */
 void check_sides(void);
 
+/* Draws the keys and blocks that the calls go through. */
+void draw_inputs(void);
+
 /* Makes the buffers ready that the calls of a task work on. */
 void make_ready(const struct task *t);
 
-uint64_t call(const struct task *t, enum side side);
+/* The call of this number, which says what key and block it takes. */
+uint64_t call(const struct task *t, enum side side, size_t number);
 
-/* Stops unless the sides that have the task give the same answer and the same output. */
+/* Stops unless the sides that have the task give the same answer and the same output: one book or note, every key and block. */
 void check_agreement(const struct task *t);
 
 #endif
