@@ -4,7 +4,7 @@ ghost use Rattle.clefia_spec.specs.Field.{product};
 use super::double;
 use super::last_bit_times;
 
-// x times y, by all eight bits of y. Where a loop ends would hang on secret bits here, which no processor guesses (DECISIONS).
+// x times y, by all eight bits of y. A loop that ends early would end by secret bits here, and so would its time; and it was slower (DECISIONS).
 pub fn product(x: u8, y: u8) -> u8
     ensures { λ r. ⌜ r ≡ product x y ⌝ }
 {

@@ -7,7 +7,7 @@ ghost use Rattle.clefia_spec.specs.Words.{_⊕_};
 ghost use Rattle.clefia_spec.specs.Field.{double8, product};
 
 // x times z. The polynomial's highest bit goes with the bit that the doubling pushes out, so 1d is what is left of 11d. Which of
-// the two comes first was measured (DECISIONS).
+// the two parts stands first was measured (DECISIONS).
 pub fn double(x: u8) -> u8
     ensures { λ r. ⌜ r ≡ double8 x ⌝ }
 {
@@ -21,7 +21,7 @@ pub fn last_bit_times(y: u8, x: u8) -> u8
     y % 2 * x
 }
 
-// What a turn adds to the sum: x where the last bit of y is set. It asks that a set bit be left in y, so a loop that makes a turn without need is not proved.
+// The sum after a turn: x is added where the last bit of y is set. It asks that a set bit be left in y, so a loop that makes a turn without need is not proved.
 fn add_last_bit(sum: u8, x: u8, y: u8) -> u8
     requires { ⌜ 0 < y ⌝ }
     ensures { λ r. ⌜ r ≡ y % 2 * x ⊕ sum ⌝ }
