@@ -1,9 +1,9 @@
 /*
  * The library beside plain C, by turns, in one run; with --beside it is beside
  * the library of an earlier commit, which bench/run has linked in place of plain
- * C. Before anything is timed, the sides are held to the published test vectors,
- * and each task's outputs to each other. Prints Markdown; bench/run makes a page
- * of it.
+ * C. Before anything is timed, the sides are held to the published test vectors
+ * and to the rule of records, and each task's outputs to each other. Prints
+ * Markdown; bench/run makes a page of it.
  */
 #include "core.h"
 #include "measure.h"
@@ -47,6 +47,8 @@ int main(int argc, char **argv)
     struct scale scales[MOST_SCALES];
     take_next_cpu();
     check_sides();
+    if (!o.beside)
+        check_rule();
     draw_inputs();
     list_tasks();
     struct disturbance d = measure_tasks(o.patience_ns);

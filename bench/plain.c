@@ -20,6 +20,7 @@
 enum { BYTE_TABLES = 1, WORD_TABLES = 2, BY_RULES = 3 };
 enum { BLOCK = 16, HEAD = 4, ENTRY = 24, IV_AT = 8 };
 enum { MOST_BYTES = 65532, MOST_SHEETS = 64, MOST_RECORDS = 1024, MOST_REPLICATES = 8, REPLICATES_BY_DEFAULT = 4 };
+enum { MOST_ROW = 999, MOST_COLUMN = 999, PLOT_AT = 9 };
 enum { MOST_NOTE_BYTES = 16384 };
 enum { CLEAR = 1, SEALED = 2 };
 enum { ABREAST = 4 };
@@ -511,10 +512,17 @@ static int check_format(uint8_t first, const uint8_t *book, size_t len, size_t *
     return len == HEAD + ENTRY * *n + BLOCK * *records ? 0 : 10;
 }
 
+/* Row and column in one word: both from 1 on, or both 0, which is reserve. Less 1, 0 is above every limit. */
+INLINE int plot_holds(uint32_t plot)
+{
+    return ((plot >> 16) - 1 < MOST_ROW && (plot & 0xffff) - 1 < MOST_COLUMN) || plot == 0;
+}
+
 INLINE int record_holds(const uint8_t *record, uint32_t trial, uint32_t replicates)
 {
     struct quad r = load_quad(record);
-    return r.a == trial && r.b != 0 && (r.c >> 24) - 1 < replicates && (r.d & 0xffffff) == 0;
+    return r.a == trial && r.b != 0 && (r.c >> 24) - 1 < replicates && plot_holds(load_word(record + PLOT_AT))
+        && (r.d & 0xffffff) == 0;
 }
 
 /* Check 11, for the bodies of the n sheets in the contents. */

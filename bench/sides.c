@@ -121,14 +121,34 @@ static void put_number(uint8_t *p, uint32_t n, int bytes)
         p[i] = (uint8_t)n;
 }
 
-static void put_record(uint8_t *record, uint32_t trial, uint32_t place)
+static uint32_t trial_of(size_t sheet)
 {
-    memset(record, 0, 16);
-    put_number(record, trial, 4);
-    put_number(record + 4, 1 + place * 7919 % 100000, 4);
-    record[8] = (uint8_t)(1 + place % 4);
-    put_number(record + 9, 1 + place / 40, 2);
-    put_number(record + 11, 1 + place % 40, 2);
+    return (uint32_t)(41 + 10 * sheet);
+}
+
+struct record { uint32_t trial, entry, replicate, row, column, last; };
+
+static void put_record(uint8_t *p, struct record r)
+{
+    put_number(p, r.trial, 4);
+    put_number(p + 4, r.entry, 4);
+    put_number(p + 8, r.replicate, 1);
+    put_number(p + 9, r.row, 2);
+    put_number(p + 11, r.column, 2);
+    put_number(p + 13, r.last, 3);
+}
+
+/* Below 16 the plot is in reserve: 78 of 1,024, at uneven distances, since the processor would learn even ones. */
+static uint8_t drawn_plots[PLANBOOK_MAX_SHEET_RECORDS];
+
+/* Each sheet's plots stand 40 to a row; those of the fifth sheet reach row 977 and column 996. */
+static struct record planned(size_t sheet, uint32_t place)
+{
+    uint32_t corner = 1 + 239 * (uint32_t)sheet;
+    struct record r = {trial_of(sheet), 1 + place * 7919 % 100000, 1 + place % 4, corner + place / 40, corner + place % 40, 0};
+    if (drawn_plots[place] < 16)
+        r.row = r.column = 0;
+    return r;
 }
 
 /* Answers the length. The largest book has five sheets; smaller ones have as many as they need. */
@@ -140,16 +160,53 @@ static size_t make_book(uint8_t *book, size_t records)
     put_number(book, 0x01000000 + (uint32_t)sheets, 4);
     for (size_t s = 0; s < sheets; s++) {
         uint8_t *entry = book + 4 + 24 * s;
-        uint32_t trial = (uint32_t)(41 + 10 * s);
         size_t count = records / sheets + (s < records % sheets);
-        put_number(entry, trial, 4);
+        put_number(entry, trial_of(s), 4);
         put_number(entry + 4, (uint32_t)count << 16, 4);
         for (int i = 0; i < 16; i++)
             entry[8 + i] = (uint8_t)(29 * i + 83 * (int)s + 7);
         for (size_t i = 0; i < count; i++, at += 16)
-            put_record(at, trial, (uint32_t)i);
+            put_record(at, planned(s, (uint32_t)i));
     }
     return (size_t)(at - book);
+}
+
+/*
+ * Held to the rule of records, so that no side is timed without a part of it.
+ * Each record stands alone in a book; the start block of the sealed one is
+ * changed by the bits in which it differs from the record that was sealed.
+ */
+
+static const struct {
+    struct record record;
+    int holds;
+} judged[] = {
+    {{41, 1, 1, 1, 1, 0}, 1}, {{41, 1, 4, 999, 999, 0}, 1}, {{41, 1, 1, 0, 0, 0}, 1},
+    {{42, 1, 1, 1, 1, 0}, 0}, {{41, 0, 1, 1, 1, 0}, 0}, {{41, 1, 0, 1, 1, 0}, 0}, {{41, 1, 5, 1, 1, 0}, 0},
+    {{41, 1, 1, 0, 1, 0}, 0}, {{41, 1, 1, 1, 0, 0}, 0}, {{41, 1, 1, 1000, 1, 0}, 0}, {{41, 1, 1, 1, 1000, 0}, 0},
+    {{41, 1, 1, 1, 1, 1}, 0},
+};
+
+static int judges_so(const struct calls *s, struct record r, uint64_t answer)
+{
+    enum { LEN = 44, IV_AT = 12, RECORD_AT = 28, WAY = PLANBOOK_WAY_WORD_TABLES };
+    uint8_t book[LEN], sealed[LEN], before[16], out[LEN];
+    make_book(book, 1);
+    plain_encrypt_book(vector_key, 16, WAY, book, LEN, sealed, LEN);
+    memcpy(before, book + RECORD_AT, sizeof before);
+    put_record(book + RECORD_AT, r);
+    for (int i = 0; i < 16; i++)
+        sealed[IV_AT + i] ^= before[i] ^ book[RECORD_AT + i];
+    return s->encrypt_book(vector_key, 16, WAY, book, LEN, out, LEN) == answer
+        && (s->decrypt_book == NULL || s->decrypt_book(vector_key, 16, WAY, sealed, LEN, out, LEN) == answer);
+}
+
+void check_rule(void)
+{
+    for (int side = 0; side < SIDES; side++)
+        for (size_t i = 0; i < sizeof judged / sizeof judged[0]; i++)
+            if (!judges_so(&sides[side], judged[i].record, judged[i].holds ? 1 : (uint64_t)PLANBOOK_CHECK_RECORD << 32))
+                stop("a side does not keep the rule of records");
 }
 
 /*
@@ -177,6 +234,7 @@ void draw_inputs(void)
 {
     draw(drawn_keys[0], sizeof drawn_keys);
     draw(drawn_blocks[0], sizeof drawn_blocks);
+    draw(drawn_plots, sizeof drawn_plots);
 }
 
 void make_ready(const struct task *t)

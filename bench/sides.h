@@ -7,7 +7,10 @@
 /* Stops unless the sides give the published test vectors, a note worked out elsewhere and the same constants. */
 void check_sides(void);
 
-/* Draws the keys and blocks that the calls go through. */
+/* Stops unless every side keeps the rule of records, in sealing and in opening. An earlier library may have had another one. */
+void check_rule(void);
+
+/* Draws the keys and blocks that the calls go through, and which plots of a book are in reserve. */
 void draw_inputs(void);
 
 /* Makes the buffers ready that the calls of a task work on. */

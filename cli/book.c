@@ -95,6 +95,11 @@ struct record read_record(const struct sheet *sheet, size_t place)
     return (struct record){get_32(at), get_32(at + 4), at[8], get_16(at + 9), get_16(at + 11)};
 }
 
+bool in_reserve(const struct record *record)
+{
+    return record->row == 0 && record->column == 0;
+}
+
 void put_record(uint8_t *at, const struct record *record)
 {
     put_32(at, record->trial);

@@ -203,6 +203,9 @@ uint32_t replicates_of(const struct sheet *sheet);
 size_t read_sheets(struct bytes book, struct sheet sheets[PLANBOOK_MAX_SHEETS]);
 struct record read_record(const struct sheet *sheet, size_t place);
 
+/* Whether a record has no place in the field yet: row and column are 0. */
+bool in_reserve(const struct record *record);
+
 void put_head(uint8_t *at, size_t sheets);
 void put_entry(uint8_t *at, const struct sheet *sheet); /* without the start block */
 uint8_t *start_block_of(struct bytes book, size_t sheet);
@@ -269,11 +272,11 @@ bool csv_next(struct csv *csv);
 /* A field of the current line, by the number of its column in csv_begin's list. */
 struct bytes csv_field(const struct csv *csv, size_t column);
 
-/* The decimal number that a field is. Answers false where it is none, or above the most. */
-bool csv_number(const struct csv *csv, size_t column, uint32_t most, uint32_t *number);
-
-/* The same, where a field that is none is reported; the title is what the number is called. */
-bool csv_take_number(const struct csv *csv, size_t column, const char *title, uint32_t most, uint32_t *number);
+/*
+ * The decimal number that a field is. One that is none, or above the most, is reported: the title is what the number is called,
+ * and the permitted is the greatest that the message names. What lies between the two is for others to refuse.
+ */
+bool csv_take_number(const struct csv *csv, size_t column, const char *title, uint32_t most, uint32_t permitted, uint32_t *number);
 
 /* The header that names these columns. */
 struct text;
@@ -311,6 +314,8 @@ void release_lines(struct lines *lines);
 /* By trial, where lines of one trial keep their order; by trial, row and column. */
 void sort_by_trial(struct lines *lines);
 void sort_by_plot(struct lines *lines);
+
+/* Whether two records stand on one plot. Those in reserve stand on none. */
 bool same_plot(const struct record *x, const struct record *y);
 
 /* How many lines from this one on are of the same trial, in lines that are sorted; and how many trials there are. */

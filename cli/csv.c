@@ -134,7 +134,7 @@ struct bytes csv_field(const struct csv *csv, size_t column)
     return csv->fields[csv->place[column]];
 }
 
-bool csv_number(const struct csv *csv, size_t column, uint32_t most, uint32_t *number)
+static bool csv_number(const struct csv *csv, size_t column, uint32_t most, uint32_t *number)
 {
     struct bytes field = csv_field(csv, column);
     uint64_t value = 0;
@@ -147,12 +147,12 @@ bool csv_number(const struct csv *csv, size_t column, uint32_t most, uint32_t *n
     return good;
 }
 
-bool csv_take_number(const struct csv *csv, size_t column, const char *title, uint32_t most, uint32_t *number)
+bool csv_take_number(const struct csv *csv, size_t column, const char *title, uint32_t most, uint32_t permitted, uint32_t *number)
 {
     bool good = csv_number(csv, column, most, number);
     if (!good)
         report(PLANBOOK_ACCEPTED, "%s, line %zu: the %s %s is not a number from 0 to %u", csv->name, csv->line, title,
-               csv_found(csv_field(csv, column)), (unsigned)most);
+               csv_found(csv_field(csv, column)), (unsigned)permitted);
     return good;
 }
 

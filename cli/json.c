@@ -12,8 +12,9 @@ static const char *comma(size_t i, size_t count)
 static void print_record(struct text *to, const struct sheet *sheet, size_t place)
 {
     struct record r = read_record(sheet, place);
-    text_print(to, "{\"trial\": %u, \"place\": %zu, \"entry\": %u, \"replicate\": %u, \"row\": %u, \"column\": %u}", (unsigned)r.trial,
-               place, (unsigned)r.entry, (unsigned)r.replicate, (unsigned)r.row, (unsigned)r.column);
+    text_print(to, "{\"trial\": %u, \"place\": %zu, \"entry\": %u, \"replicate\": %u, \"row\": %u, \"column\": %u, \"reserve\": %s}",
+               (unsigned)r.trial, place, (unsigned)r.entry, (unsigned)r.replicate, (unsigned)r.row, (unsigned)r.column,
+               in_reserve(&r) ? "true" : "false");
 }
 
 static void print_contents(struct text *to, const struct sheet *sheets, size_t n)

@@ -59,7 +59,7 @@ void sort_by_plot(struct lines *lines)
 
 bool same_plot(const struct record *x, const struct record *y)
 {
-    return compare_plots(x, y) == 0;
+    return compare_plots(x, y) == 0 && !in_reserve(x);
 }
 
 size_t trial_lines(const struct lines *lines, size_t from)

@@ -15,6 +15,9 @@ static const char *const plan_columns[PLAN_COLUMNS] = {"trial", "entry", "replic
 /* The greatest number that has room in the book. */
 static const uint32_t most[PLAN_COLUMNS] = {UINT32_MAX, UINT32_MAX, UINT8_MAX, UINT16_MAX, UINT16_MAX};
 
+/* The greatest number that a message about the form names. */
+static const uint32_t named[PLAN_COLUMNS] = {UINT32_MAX, UINT32_MAX, UINT8_MAX, PLANBOOK_MAX_ROW, PLANBOOK_MAX_COLUMN};
+
 #define TEXT_BEGINNING 16
 
 /* No control character stands near the beginning, but for those of lines. A book has one at the very first place. */
@@ -31,7 +34,7 @@ bool is_plan(struct bytes input)
 /* A decimal number that fits its place in the book. */
 static bool take_number(const struct csv *csv, size_t column, uint32_t *number)
 {
-    return csv_take_number(csv, column, plan_columns[column], most[column], number);
+    return csv_take_number(csv, column, plan_columns[column], most[column], named[column], number);
 }
 
 /* The library is asked about each record by itself, so that every line it would refuse is told. */

@@ -5,6 +5,7 @@
  */
 #include "cli.h"
 
+#include <stdarg.h>
 #include <stdio.h>
 
 static size_t contents_bytes(struct bytes book)
@@ -67,24 +68,42 @@ static void refuse_body_length(const char *name, struct bytes book)
            book.len < said ? "its end is missing" : "something was added");
 }
 
+/* One in a message. */
+static const char *fault(const char *format, ...) __attribute__((format(printf, 1, 2)));
+static const char *fault(const char *format, ...)
+{
+    static char text[128];
+    va_list arguments;
+    va_start(arguments, format);
+    vsnprintf(text, sizeof text, format, arguments);
+    va_end(arguments);
+    return text;
+}
+
+/* The parts of the rule in the order that it is written in: trial, entry, replicate, plot, zero bytes. */
 const char *record_fault(const struct record *record, const struct sheet *sheet)
 {
-    static char text[80];
     unsigned trial = (unsigned)sheet->trial, replicates = (unsigned)replicates_of(sheet);
+    unsigned row = (unsigned)record->row, column = (unsigned)record->column;
     if (trial == 0)
         return "trial 0, but trials begin at 1";
+    if (record->trial != trial)
+        return fault("a record of trial %u in the sheet of trial %u", (unsigned)record->trial, trial);
     if (record->entry == 0)
         return "entry 0, but entries begin at 1";
     if (record->replicate == 0)
         return "replicate 0, but replicates begin at 1";
-    if (record->trial != trial)
-        snprintf(text, sizeof text, "a record of trial %u in the sheet of trial %u", (unsigned)record->trial, trial);
-    else if (record->replicate > replicates)
-        snprintf(text, sizeof text, "replicate %u, but trial %u has %u%s", (unsigned)record->replicate, trial, replicates,
-                 sheet->replicates == 0 ? ", the default" : "");
-    else
-        return "the last three bytes of the record are not zero";
-    return text;
+    if (record->replicate > replicates)
+        return fault("replicate %u, but trial %u has %u%s", (unsigned)record->replicate, trial, replicates,
+                     sheet->replicates == 0 ? ", the default" : "");
+    if (row > PLANBOOK_MAX_ROW)
+        return fault("row %u, but rows are from 1 to %d", row, PLANBOOK_MAX_ROW);
+    if (column > PLANBOOK_MAX_COLUMN)
+        return fault("column %u, but columns are from 1 to %d", column, PLANBOOK_MAX_COLUMN);
+    if ((row == 0) != (column == 0))
+        return fault("row %u and column %u: a plot in reserve has 0 for both, any other has both from 1 to %d", row, column,
+                     PLANBOOK_MAX_ROW);
+    return "the last three bytes of the record are not zero";
 }
 
 /* The first record that the library refuses by itself. */
@@ -141,6 +160,9 @@ void refuse_sealed_book(const char *name, struct bytes book, uint32_t check)
 {
     refuse_form(name, book, check, PLANBOOK_SEALED);
     if (check == PLANBOOK_CHECK_RECORD)
-        refuse(check, "%s does not open under this key: most likely it was sealed under another one, or changed since", name);
+        refuse(check,
+               "%s does not open under this key: most likely it was sealed under another one, or changed since; or a version "
+               "before 2.0 sealed it, with a plot that is no longer permitted",
+               name);
     refuse(check, "%s: %s", name, planbook_check_sentence(check));
 }

@@ -26,8 +26,11 @@ static void print_record_head(struct text *to)
 static void print_record(struct text *to, const struct sheet *sheet, size_t place)
 {
     struct record r = read_record(sheet, place);
-    text_print(to, "%10u %5zu %10u %9u %5u %6u\n", (unsigned)r.trial, place, (unsigned)r.entry, (unsigned)r.replicate,
-               (unsigned)r.row, (unsigned)r.column);
+    text_print(to, "%10u %5zu %10u %9u ", (unsigned)r.trial, place, (unsigned)r.entry, (unsigned)r.replicate);
+    if (in_reserve(&r))
+        text_print(to, "%12s\n", "reserve"); /* as wide as row and column */
+    else
+        text_print(to, "%5u %6u\n", (unsigned)r.row, (unsigned)r.column);
 }
 
 struct bytes show_table(struct bytes book)

@@ -26,21 +26,19 @@ static bool take_start_block(const struct csv *csv, struct line *line)
 
 static bool take_replicates(const struct csv *csv, struct line *line)
 {
-    bool is_number = csv_number(csv, REPLICATES, UINT8_MAX, &line->replicates);
-    if (!is_number)
-        report(PLANBOOK_ACCEPTED, "%s, line %zu: the number of replicates %s is not a number from 0 to %d", csv->name, csv->line,
-               csv_found(csv_field(csv, REPLICATES)), PLANBOOK_MAX_REPLICATES);
-    else if (line->replicates > PLANBOOK_MAX_REPLICATES)
+    if (!csv_take_number(csv, REPLICATES, "number of replicates", UINT8_MAX, PLANBOOK_MAX_REPLICATES, &line->replicates))
+        return false;
+    if (line->replicates > PLANBOOK_MAX_REPLICATES)
         report(PLANBOOK_CHECK_ENTRY, "%s, line %zu: %u replicates, but a trial has 1 to %d, or 0 for the default of %d", csv->name,
                csv->line, (unsigned)line->replicates, PLANBOOK_MAX_REPLICATES, PLANBOOK_DEFAULT_REPLICATES);
-    return is_number && line->replicates <= PLANBOOK_MAX_REPLICATES;
+    return line->replicates <= PLANBOOK_MAX_REPLICATES;
 }
 
 static void read_trial(const struct csv *csv, struct lines *lines)
 {
     struct line *line = &lines->all[lines->count];
     *line = (struct line){.line = csv->line};
-    if (!csv_take_number(csv, TRIAL, trials_columns[TRIAL], UINT32_MAX, &line->record.trial))
+    if (!csv_take_number(csv, TRIAL, trials_columns[TRIAL], UINT32_MAX, UINT32_MAX, &line->record.trial))
         return;
     bool good = !csv_has(csv, START_BLOCK) || take_start_block(csv, line);
     good &= !csv_has(csv, REPLICATES) || take_replicates(csv, line);

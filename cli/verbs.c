@@ -194,16 +194,32 @@ void run_keygen(const struct arguments *given)
     write_one(given->words[0], draw_key((size_t)bits / 8), true, KEEP_KEY);
 }
 
+static size_t count_reserve(const struct sheet *sheet)
+{
+    size_t reserve = 0;
+    for (size_t place = 0; place < sheet->count; place++) {
+        struct record record = read_record(sheet, place);
+        reserve += in_reserve(&record);
+    }
+    return reserve;
+}
+
+/* Plots in reserve are told, since a spreadsheet may have made zeros of empty cells. */
 void run_check(const struct arguments *given)
 {
     struct sheet sheets[PLANBOOK_MAX_SHEETS];
     struct bytes plan = read_csv(given->words[0]);
     struct bytes book = packed_plan(given, plan, AS_GIVEN);
-    size_t records = 0, trials = read_sheets(book, sheets);
-    for (size_t i = 0; i < trials; i++)
+    size_t records = 0, reserve = 0, trials = read_sheets(book, sheets);
+    for (size_t i = 0; i < trials; i++) {
         records += sheets[i].count;
+        reserve += count_reserve(&sheets[i]);
+    }
     struct text text = {{NULL, 0}, 0};
-    text_print(&text, "trials %zu, plots %zu, bytes of the book %zu\n", trials, records, book.len);
+    text_print(&text, "trials %zu, plots %zu, ", trials, records);
+    if (reserve > 0)
+        text_print(&text, "in reserve %zu, ", reserve);
+    text_print(&text, "bytes of the book %zu\n", book.len);
     release(&plan);
     release(&book);
     write_one(NULL, text_end(&text), false, KEEP);

@@ -99,7 +99,7 @@
 extern "C" {
 #endif
 
-#define PLANBOOK_VERSION "1.1.0"
+#define PLANBOOK_VERSION "2.0.0"
 
 /* Not part of the interface: a cast that neither language warns of, and the compiler's attributes. */
 #ifdef __cplusplus
@@ -141,6 +141,8 @@ extern "C" {
 #define PLANBOOK_MAX_SHEET_RECORDS 1024
 #define PLANBOOK_MAX_REPLICATES 8
 #define PLANBOOK_DEFAULT_REPLICATES 4 /* what 0 in byte 6 of a contents entry stands for, as in the books of past seasons */
+#define PLANBOOK_MAX_ROW 999 /* row and column are both 1 to 999, or both 0: in reserve, a spare plant that has no place yet */
+#define PLANBOOK_MAX_COLUMN 999
 #define PLANBOOK_MIN_BOOK_BYTES 4
 #define PLANBOOK_MAX_BOOK_BYTES 65532
 
@@ -291,7 +293,8 @@ static inline const char *planbook_check_sentence(uint32_t check)
     case PLANBOOK_CHECK_BODY_LENGTH: return "the book is not as long as its contents say";
     case PLANBOOK_CHECK_RECORD:
         return "a record breaks its rule: its sheet's trial, entry at least 1, replicate from 1 to its sheet's number of "
-               "replicates, three zero bytes at the end; in opening, the key may be the wrong one";
+               "replicates, row and column both from 1 to 999 or both 0 (in reserve), three zero bytes at the end; in opening, "
+               "the key may be the wrong one";
     case PLANBOOK_CHECK_NOTE_LENGTH: return "the note is longer than 16384 bytes";
     default: return "there is no check of this number";
     }

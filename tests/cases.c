@@ -158,6 +158,30 @@ static const uint8_t *entry_of_record(uint8_t *book, size_t record)
     return entry;
 }
 
+/* A row or a column that a plot in the field has, often the first or the last. */
+static size_t field_number(generator *g, size_t most)
+{
+    switch (random_below(g, 6)) {
+    case 0: return 1;
+    case 1: return most;
+    default: return random_between(g, 1, most);
+    }
+}
+
+static void put_plot(uint8_t *record, size_t row, size_t column)
+{
+    put_half(record + 9, row);
+    put_half(record + 11, column);
+}
+
+static void make_plot(generator *g, uint8_t *record)
+{
+    if (random_chance(g, 6))
+        put_plot(record, 0, 0);
+    else
+        put_plot(record, field_number(g, MAX_ROW), field_number(g, MAX_COLUMN));
+}
+
 static void make_record(generator *g, const uint8_t *entry, uint8_t *record)
 {
     unsigned replicates = reference_replicates(entry);
@@ -165,7 +189,7 @@ static void make_record(generator *g, const uint8_t *entry, uint8_t *record)
     memcpy(record, entry, 4);
     reference_store_word(record + 4, (uint32_t)random_between(g, 1, random_chance(g, 8) ? UINT32_MAX : 500));
     record[8] = (uint8_t)random_between(g, random_chance(g, 4) ? replicates : 1, replicates);
-    random_fill(g, record + 9, 4);
+    make_plot(g, record);
 }
 
 size_t make_clear_book(generator *g, const book_shape *shape, uint8_t *book)
@@ -233,6 +257,22 @@ static void choose_shape(generator *g, unsigned damages, book_shape *shape)
         shape->counts[random_below(g, shape->sheets)] = random_chance(g, 50) ? MAX_RECORDS + 1 : 0;
 }
 
+/* Half in reserve; or row or column beyond the last, where the other is in the field, 0 or beyond too. */
+static void damage_plot(generator *g, uint8_t *record)
+{
+    size_t row = field_number(g, MAX_ROW), column = field_number(g, MAX_COLUMN);
+    size_t row_beyond = just_above(g, MAX_ROW), column_beyond = just_above(g, MAX_COLUMN);
+    switch (random_below(g, 7)) {
+    case 0: put_plot(record, 0, column); break;
+    case 1: put_plot(record, row, 0); break;
+    case 2: put_plot(record, row_beyond, column); break;
+    case 3: put_plot(record, row, column_beyond); break;
+    case 4: put_plot(record, row_beyond, 0); break;
+    case 5: put_plot(record, 0, column_beyond); break;
+    default: put_plot(record, row_beyond, column_beyond); break;
+    }
+}
+
 static void damage_record(generator *g, uint8_t *book, size_t len)
 {
     size_t start = HEAD_LENGTH + ENTRY_LENGTH * sheets_of(book);
@@ -243,12 +283,13 @@ static void damage_record(generator *g, uint8_t *book, size_t len)
         return;
     number = random_below(g, records);
     record = book + start + RECORD_LENGTH * number;
-    switch (random_below(g, 5)) {
+    switch (random_below(g, 8)) {
     case 0: record[random_below(g, 4)] ^= (uint8_t)random_between(g, 1, 255); break;
     case 1: reference_store_word(record + 4, 0); break;
     case 2: record[8] = 0; break;
     case 3: record[8] = byte_above(g, reference_replicates(entry_of_record(book, number))); break;
-    default: record[random_between(g, 13, 15)] = (uint8_t)random_between(g, 1, 255); break;
+    case 4: record[random_between(g, 13, 15)] = (uint8_t)random_between(g, 1, 255); break;
+    default: damage_plot(g, record); break;
     }
 }
 

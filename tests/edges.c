@@ -201,10 +201,6 @@ static void expect_record(unsigned at, uint8_t value, uint64_t answer, const cha
 
 static void check_records(void)
 {
-    for (unsigned at = 9; at <= 12; at++) {
-        expect_record(at, 0x00, 6, "row or column");
-        expect_record(at, 0xff, 6, "row or column");
-    }
     for (unsigned at = 13; at <= 15; at++)
         expect_record(at, 1, refusal(11), "zero byte of a record");
     for (size_t j = 0; j < 6; j++) {
@@ -216,6 +212,49 @@ static void check_records(void)
         memcpy(record(3, j), entry(j / 2 == 0 ? 1 : 0), 4);
         expect(refusal(11), "trial of another sheet");
     }
+}
+
+static void expect_plot(uint8_t *at, uint64_t key_len, size_t row, size_t column, uint64_t answer)
+{
+    char what[80];
+    reference_store_word(at + 9, (uint32_t)(row << 16 | column)); /* bytes 9 to 12 */
+    snprintf(what, sizeof what, "row %zu and column %zu in the record at byte %td", row, column, at - book);
+    expect_lengths(key_len, book_len, answer, what);
+}
+
+/* Row, column, and the check that answers. */
+static const uint16_t plots[][3] = {
+    {0, 0, 0}, {1, 1, 0}, {999, 999, 0}, {1, 999, 0}, {999, 1, 0}, {256, 1, 0}, {1, 256, 0},
+    {0, 1, 11}, {1, 0, 11}, {0, 999, 11}, {999, 0, 11}, {0, 256, 11}, {256, 0, 11}, {0, 1000, 11}, {1000, 0, 11},
+    {1, 1000, 11}, {1000, 1, 11}, {999, 1000, 11}, {1000, 999, 11}, {1000, 1000, 11},
+    {1, 1025, 11}, {1025, 1, 11}, {65535, 65535, 11},
+};
+
+/* Each of them in each record of a book. */
+static void check_plots(size_t sheets, size_t count)
+{
+    size_t records = sheets * count;
+    for (size_t j = 0; j < records; j++)
+        for (size_t i = 0; i < sizeof plots / sizeof plots[0]; i++) {
+            new_book(sheets, count);
+            expect_plot(record(sheets, j), 32, plots[i][0], plots[i][1], plots[i][2] == 0 ? records : refusal(plots[i][2]));
+        }
+}
+
+/* Every row beside some columns, and every column beside the same rows; a shorter run leaves numbers out. */
+static void check_every_row_and_column(void)
+{
+    static const struct {
+        size_t number, least, most; /* a row or column, and what the other may be beside it */
+    } beside[] = {{0, 0, 0}, {1, 1, 999}, {999, 1, 999}, {1000, 1, 0}};
+    size_t step = 65536 / scaled(65536);
+    new_book(1, 1);
+    for (size_t i = 0; i < sizeof beside / sizeof beside[0]; i++)
+        for (size_t other = random_below(&random_source, step); other <= 65535; other += step) {
+            uint64_t answer = other >= beside[i].least && other <= beside[i].most ? 1 : refusal(11);
+            expect_plot(record(1, 0), 16, other, beside[i].number, answer);
+            expect_plot(record(1, 0), 16, beside[i].number, other, answer);
+        }
 }
 
 /* A book of three sheets of two records, with these numbers of replicates in its entries; every replicate is 1. */
@@ -311,6 +350,9 @@ void check_edges(void)
     check_overfull_contents(5, MAX_BOOK_LENGTH);
     check_overfull_contents(64, MAX_BOOK_LENGTH); /* 65,536 records: a sum in 16 bits would be 0 */
     check_records();
+    check_plots(3, 2);
+    check_plots(1, 9); /* records that are looked at four abreast, and one behind them */
+    check_every_row_and_column();
     check_replicates();
     check_sheets_replicates();
     check_zero_and_four();

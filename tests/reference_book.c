@@ -162,10 +162,20 @@ static size_t records_there(const book_view *book, size_t sheet, size_t *at)
     return start < book->len ? (book->len - start) / RECORD_LENGTH : 0;
 }
 
+/* A plot in reserve has neither row nor column. A plot that has one of them
+ * has both, and neither is above its limit. */
+static int plot_holds(size_t row, size_t column)
+{
+    if (row == 0 || column == 0)
+        return row == column;
+    return row <= MAX_ROW && column <= MAX_COLUMN;
+}
+
 static int record_holds(const uint8_t *record, const uint8_t *entry)
 {
     return memcmp(record, entry, 4) == 0 && reference_load_word(record + 4) != 0 && record[8] >= 1 &&
-           record[8] <= reference_replicates(entry) && record[13] == 0 && record[14] == 0 && record[15] == 0;
+           record[8] <= reference_replicates(entry) && plot_holds(load_half(record + 9), load_half(record + 11)) &&
+           record[13] == 0 && record[14] == 0 && record[15] == 0;
 }
 
 /* CBC. */

@@ -50,7 +50,9 @@ enum {
     MAX_SHEETS = 64,
     MAX_RECORDS = 1024,
     MAX_REPLICATES = 8,
-    DEFAULT_REPLICATES = 4 /* where an entry has 0 */
+    DEFAULT_REPLICATES = 4, /* where an entry has 0 */
+    MAX_ROW = 999,
+    MAX_COLUMN = 999
 };
 
 enum {

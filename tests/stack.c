@@ -105,8 +105,8 @@ static void add_expanded_key(void)
     secret_count += 2 * expanded.rounds;
 }
 
-/* A book of two sheets. The first three words of each record are secrets; trials and entries are made high, since small
- * numbers may stand on the stack for another reason. */
+/* A book of two sheets. The first three words of each record are secrets; trials, entries and plots are made high, since
+ * small numbers may stand on the stack for another reason. Row and column are one word here, 935 and 709 in the first record. */
 static size_t make_book(uint8_t *book)
 {
     static const book_shape shape = {2, {3, RECORDS - 3}};
@@ -117,6 +117,7 @@ static size_t make_book(uint8_t *book)
     for (uint32_t i = 0; i < RECORDS; i++, record += RECORD_LENGTH) {
         memcpy(record, entries + (i < 3 ? 0 : ENTRY_LENGTH), 4);
         reference_store_word(record + 4, 0xc8e17f35 - 0x01030507 * i);
+        reference_store_word(record + 9, 0x03a702c5 - 0x00050003 * i);
         add_secrets(record, 12);
     }
     return len;

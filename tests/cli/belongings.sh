@@ -98,6 +98,7 @@ test_demo() {
     holds "the demo goes from a plan to a plan" grep -q "The plan is the same, byte for byte" "$work/demo.txt"
     holds "the demo seals a note and opens it" grep -q "The note is the same, byte for byte" "$work/demo.txt"
     holds "the demo compares digests" grep -q "sealed.book: OK" "$work/demo.txt"
+    holds "the demo shows the spare plant" grep -qx "        41     8        105         1      reserve" "$work/demo.txt"
     holds "the demo has no warning" [ -z "$(grep warning "$work/demo.txt")" ]
     cd "$work" || exit 2
 }

@@ -73,11 +73,14 @@ test_bad_lines() {
     bad_line 2 'the entry "99999999999999999999999999" is not a number from 0 to 4294967295' 41,99999999999999999999999999,2,12,3
     bad_line 2 'the entry "" is not a number from 0 to 4294967295' 41,,2,12,3
     bad_line 2 'the replicate "256" is not a number from 0 to 255' 41,7,256,12,3
-    bad_line 2 'the row "-12" is not a number from 0 to 65535' 41,7,2,-12,3
-    bad_line 2 'the row " 12" is not a number from 0 to 65535' '41,7,2, 12,3'
-    bad_line 2 'the column "65536" is not a number from 0 to 65535' 41,7,2,12,65536
-    bad_line 2 'the column "3:" is not a number from 0 to 65535' 41,7,2,12,3:
-    bad_line 2 'the column "3/" is not a number from 0 to 65535' 41,7,2,12,3/
+    bad_line 2 'the row "-12" is not a number from 0 to 999' 41,7,2,-12,3
+    bad_line 2 'the row " 12" is not a number from 0 to 999' '41,7,2, 12,3'
+    bad_line 2 'the row "65536" is not a number from 0 to 999' 41,7,2,65536,3
+    bad_line 2 'the row "" is not a number from 0 to 999' 41,7,2,,3
+    bad_line 2 'the column "65536" is not a number from 0 to 999' 41,7,2,12,65536
+    bad_line 2 'the column "reserve" is not a number from 0 to 999' 41,7,2,0,reserve
+    bad_line 2 'the column "3:" is not a number from 0 to 999' 41,7,2,12,3:
+    bad_line 2 'the column "3/" is not a number from 0 to 999' 41,7,2,12,3/
     bad_line 2 'the entry "1,024" is not a number from 0 to 4294967295' '41,"1,024",2,12,3'
     bad_line 2 'the entry "7"" is not a number from 0 to 4294967295' '41,"7""",2,12,3'
     bad_line 2 'there is more after the closing quote of a field' '41,"7"8,2,12,3'
@@ -140,25 +143,28 @@ test_headers() {
     rm -f long.csv
 }
 
+# plots TRIAL COUNT: as many lines, each on a plot of its own, 500 of them to a row.
+plots() { seq 0 $(($2 - 1)) | awk -v trial="$1" '{ printf "%s,7,1,%d,%d\n", trial, $1 / 500 + 1, $1 % 500 + 1 }'; }
+
 # Limits of a book, and plots that two records share.
 test_limits() {
-    { echo $header; seq -f '41,7,1,1,%.0f' 1 1024; } >damaged.csv
+    { echo $header; plots 41 1024; } >damaged.csv
     expect 0 "" check damaged.csv
-    { echo $header; seq -f '41,7,1,1,%.0f' 1 1025; } >damaged.csv
+    { echo $header; plots 41 1025; } >damaged.csv
     expect_exactly 1 "planbook: damaged.csv: trial 41 has 1,025 plots, at most 1,024 [check 9]" check damaged.csv
     { echo $header; seq -f '%.0f,1,1,1,1' 1 64; } >damaged.csv
     expect 0 "" check damaged.csv
     { echo $header; seq -f '%.0f,1,1,1,1' 1 65; } >damaged.csv
     expect_exactly 1 "planbook: damaged.csv: 65 trials do not fit one book, which has at most 64; make two plans of it [check 7]" check damaged.csv
     # 5,000 plots in five trials
-    { echo $header; for trial in 1 2 3 4 5; do seq -f "$trial,7,1,$trial,%.0f" 1 1000; done; } >damaged.csv
+    { echo $header; for trial in 1 2 3 4 5; do plots $trial 1000; done; } >damaged.csv
     expect_exactly 1 "planbook: damaged.csv: 5,000 plots do not fit one book: with the contents of 5 trials they take 80,124 bytes, at most 65,532; make two plans of it [check 5]" check damaged.csv
     # the largest book, and one plot more
-    { echo $header; for trial in 1 2 3 4; do seq -f "$trial,7,1,$trial,%.0f" 1 1000; done; seq -f "5,7,1,5,%.0f" 1 88; } >damaged.csv
+    { echo $header; for trial in 1 2 3 4; do plots $trial 1000; done; plots 5 88; } >damaged.csv
     expect 0 "" seal --key key128 damaged.csv x
     holds "the largest book" [ "$(wc -c <x)" -eq 65532 ]
     rm -f x
-    echo 5,7,1,5,89 >>damaged.csv
+    echo 5,7,1,1,89 >>damaged.csv
     expect_nothing x 1 "4,089 plots do not fit one book" seal --key key128 damaged.csv x
     # all limits and a bad line at once
     { echo $header; seq -f '41,7,5,1,%.0f' 1 4096; } >damaged.csv

@@ -9,7 +9,7 @@
  *   show.txt show.json          what show must print of the clear book
  *   head.txt head.json          and of the sealed one
  *   labels.txt labels.json      what labels must print
- *   find                        one line for find: a label, then trial, place, entry, replicate, row and column
+ *   find                        one line for find: a label, then trial, place, entry, replicate, and row and column or reserve
  *
  * usage: random_book SEED. It shares no code with the command.
  */
@@ -71,6 +71,17 @@ static unsigned replicates_of(unsigned s)
     return sheets[s].replicates == 0 ? 4 : sheets[s].replicates;
 }
 
+/* Row and column are both from 1 to 999, or both 0: in reserve. */
+static struct plot draw_plot(unsigned s)
+{
+    struct plot p = {number(1, UINT32_MAX), number(1, replicates_of(s)), 0, 0};
+    if (below(4) > 0) {
+        p.row = number(1, 999);
+        p.column = number(1, 999);
+    }
+    return p;
+}
+
 static void draw_book(void)
 {
     unsigned room = MAX_BOOK - 4;
@@ -88,8 +99,7 @@ static void draw_book(void)
         for (unsigned i = 0; i < 16; i++)
             sheets[sheet_count].start[i] = (unsigned char)draw();
         for (unsigned i = 0; i < count; i++)
-            sheets[sheet_count].plots[i] =
-                (struct plot){number(1, UINT32_MAX), number(1, replicates_of(sheet_count)), number(0, 65535), number(0, 65535)};
+            sheets[sheet_count].plots[i] = draw_plot(sheet_count);
     }
 }
 
@@ -262,7 +272,7 @@ static void write_mixed_csv(void)
     write_mixed_trials();
 }
 
-/* Tables. Numbers stand right under their names. */
+/* Tables. Numbers stand right under their names, and so does the word reserve, under both of its. */
 
 static void write_head(FILE *to, const char *kind)
 {
@@ -291,7 +301,11 @@ static void write_tables(void)
     for (unsigned s = 0; s < sheet_count; s++)
         for (unsigned i = 0; i < sheets[s].count; i++, record += 16) {
             const struct plot *p = &sheets[s].plots[i];
-            fprintf(show, "%10" PRIu32 "%6u%11" PRIu32 "%10u%6u%7u\n", sheets[s].trial, i, p->entry, p->replicate, p->row, p->column);
+            fprintf(show, "%10" PRIu32 "%6u%11" PRIu32 "%10u", sheets[s].trial, i, p->entry, p->replicate);
+            if (p->row == 0)
+                fputs("      reserve\n", show);
+            else
+                fprintf(show, "%6u%7u\n", p->row, p->column);
             fprintf(labels, "%" PRIu32 " %u ", sheets[s].trial, i);
             write_hex(labels, record);
             fputc('\n', labels);
@@ -329,7 +343,8 @@ static void write_json(void)
             const struct plot *p = &sheets[s].plots[i];
             const char *comma = s + i > 0 ? "," : "";
             fprintf(show, "%s\n  {\"trial\": %" PRIu32 ", \"place\": %u, \"entry\": %" PRIu32, comma, sheets[s].trial, i, p->entry);
-            fprintf(show, ", \"replicate\": %u, \"row\": %u, \"column\": %u}", p->replicate, p->row, p->column);
+            fprintf(show, ", \"replicate\": %u, \"row\": %u, \"column\": %u, \"reserve\": %s}", p->replicate, p->row, p->column,
+                    p->row == 0 ? "true" : "false");
             fprintf(labels, "%s\n {\"trial\": %" PRIu32 ", \"place\": %u, \"label\": \"", comma, sheets[s].trial, i);
             write_hex(labels, record);
             fputs("\"}", labels);
@@ -351,7 +366,11 @@ static void write_find(void)
             before += sheets[t].count;
         const struct plot *p = &sheets[s].plots[i];
         write_hex(to, sealed + 4 + 24 * sheet_count + 16 * before);
-        fprintf(to, " %" PRIu32 " %u %" PRIu32 " %u %u %u\n", sheets[s].trial, i, p->entry, p->replicate, p->row, p->column);
+        fprintf(to, " %" PRIu32 " %u %" PRIu32 " %u ", sheets[s].trial, i, p->entry, p->replicate);
+        if (p->row == 0)
+            fputs("reserve\n", to);
+        else
+            fprintf(to, "%u %u\n", p->row, p->column);
     }
     finish(to);
 }

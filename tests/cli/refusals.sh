@@ -88,6 +88,9 @@ test_names() {
     expect_exactly 2 'planbook: cannot open \xff\xc3: No such file or directory' show "$(printf '\377\303')"
 }
 
+# What is said of a sealed book under check 11.
+not_opened="does not open under this key: most likely it was sealed under another one, or changed since; or a version before 2.0 sealed it, with a plot that is no longer permitted"
+
 test_keys() {
     umask 077
     for length in 0 15 17 23 25 31 33 4000; do
@@ -129,8 +132,7 @@ test_keys() {
             expect_exactly 1 "planbook: --way $way: the ways are 1, 2 and 3 [check 2]" $line x --way $way
         done
     done
-    expect_exactly 1 "planbook: sealed128 does not open under this key: most likely it was sealed under another one, or changed since [check 11]" \
-        open --key key256 sealed128 x
+    expect_exactly 1 "planbook: sealed128 $not_opened [check 11]" open --key key256 sealed128 x
     holds "nothing is made under a wrong key" [ ! -e x ]
     # a key that others may read
     for mode in 644 640 604; do
@@ -194,6 +196,13 @@ test_books() {
     bad_clear 11 ", trial 41, place 1: entry 0, but entries begin at 1" 01000001 0000002900020000$start $record 000000290000000001000c0003000000
     bad_clear 11 ", trial 41, place 0: a record of trial 42 in the sheet of trial 41" 01000001 $entry 0000002a0000000702000c0003000000
     bad_clear 11 ", trial 41, place 0: the last three bytes of the record are not zero" 01000001 $entry 000000290000000702000c0003000001
+    # of several faults in one record the first by the rule is told: trial, entry, replicate, plot, zero bytes
+    bad_clear 11 ", trial 41, place 0: a record of trial 42 in the sheet of trial 41" 01000001 $entry 0000002a0000000000ffffffff000001
+    bad_clear 11 ", trial 41, place 0: entry 0, but entries begin at 1" 01000001 $entry 000000290000000000ffffffff000001
+    bad_clear 11 ", trial 41, place 0: replicate 0, but replicates begin at 1" 01000001 $entry 000000290000000700ffffffff000001
+    bad_clear 11 ", trial 41, place 0: replicate 5, but trial 41 has 4, the default" 01000001 $entry 000000290000000705ffffffff000001
+    bad_clear 11 ", trial 41, place 0: row 65535, but rows are from 1 to 999" 01000001 $entry 000000290000000702ffffffff000001
+    bad_clear 11 ", trial 41, place 0: column 65535, but columns are from 1 to 999" 01000001 $entry 0000002900000007020000ffff000001
     bad_sealed 5 " has 0 bytes, and a plan book has at least 4"
     bad_sealed 5 " has 3 bytes, and a plan book has at least 4" 020000
     bad_sealed 6 " is a clear book, and a sealed one is needed here" 01000001 $entry $record

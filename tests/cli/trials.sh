@@ -162,17 +162,54 @@ planbook: damaged-plan.csv, line 3: replicate 9, but trial 42 has 8 [check 11]" 
     rm -f x
 }
 
-# Books and files that the command of the season before has made. tests/past/README.md says how.
-test_past_seasons() {
-    past=$here/tests/past
-    install -m 600 "$past/key-not-secret.hex" past.hex
+# opens_as_before FOLDER: what was sealed in a past season opens to its clear book, and is sealed to the same bytes.
+opens_as_before() {
     for way in 1 2 3; do
-        expect 0 "" open --key-hex past.hex --way $way "$past/sealed.book" x
-        same x "$past/clear.book"
-        expect 0 "" seal --key-hex past.hex --way $way "$past/clear.book" y
-        same y "$past/sealed.book"
+        expect 0 "" open --key-hex past.hex --way $way "$1/sealed.book" x
+        same x "$1/clear.book"
+        expect 0 "" seal --key-hex past.hex --way $way "$1/clear.book" y
+        same y "$1/sealed.book"
         rm -f x y
     done
+}
+
+# is_refused_since FOLDER TRIAL PLACE SENTENCE: a book that was good in its season, with a plot that breaks the rule of today.
+is_refused_since() {
+    refused="planbook: $1/clear.book, trial $2, place $3: $4 [check 11]"
+    for line in "seal --key-hex past.hex --way 1" "seal --key-hex past.hex --way 2" "seal --key-hex past.hex --way 3" show "unpack --trials y"; do
+        expect_exactly 1 "$refused" $line "$1/clear.book" x
+        holds "$line makes nothing of $1" [ ! -e x ]
+        holds "$line makes no trials of $1" [ ! -e y ]
+    done
+    for line in "open --way 1" "open --way 2" "open --way 3" "open --csv --trials y" show; do
+        expect_exactly 1 "planbook: $1/sealed.book $not_opened [check 11]" $line --key-hex past.hex "$1/sealed.book" x
+        holds "$line makes nothing of $1" [ ! -e x ]
+        holds "$line makes no trials of $1" [ ! -e y ]
+    done
+    expect_nothing x 1 "$1/sealed.book $not_opened [check 11]" find --key-hex past.hex "$1/sealed.book" "$2" "$3"
+}
+
+# is_mended FOLDER LINE OLD NEW: its plan names the line; mended, it is sealed anew, and opens. No label stays what it was.
+is_mended() {
+    expect_exactly 1 "planbook: $1/plan.csv, line $2 [check 11]" check --trials "$1/trials.csv" "$1/plan.csv"
+    sed "s/,$3\$/,$4/" "$1/plan.csv" >mended.csv
+    holds "the plan of $1 has one bad plot" [ "$(diff "$1/plan.csv" mended.csv | grep -c '^>')" -eq 1 ]
+    expect 0 "the start blocks are not used" seal --key-hex past.hex --trials "$1/trials.csv" mended.csv x
+    expect 0 "" open --key-hex past.hex --trials y.csv x x.csv
+    same x.csv mended.csv
+    holds "the trials of $1 keep their numbers" [ "$(cut -d , -f 1,3 y.csv)" = "$(cut -d , -f 1,3 "$1/trials.csv")" ]
+    "$planbook" labels "$1/sealed.book" | sort >labels-then
+    "$planbook" labels x | sort >labels-now
+    holds "the labels of $1 are still printed" [ "$(wc -l <labels-then)" -eq $(($(wc -l <"$1/plan.csv") - 1)) ]
+    holds "the labels of $1 are others now" [ -z "$(comm -12 labels-then labels-now)" ]
+    rm -f x y.csv x.csv mended.csv labels-then labels-now
+}
+
+# Books and files that commands of past seasons have made. tests/past/README.md says how.
+test_past_seasons() {
+    past=$here/tests/past/0.2.0
+    install -m 600 "$past/key-not-secret.hex" past.hex
+    opens_as_before "$past"
     expect 0 "" open --key-hex past.hex "$past/sealed.book" x.csv
     same x.csv "$past/plan.csv"
     expect 0 "" pack --starts "$past/starts.csv" "$past/plan.csv" book
@@ -185,5 +222,29 @@ test_past_seasons() {
     same book "$past/clear.book"
     expect 0 "" show "$past/sealed.book"
     holds "every trial of a past season has four replicates, by default" [ "$(grep -c ' 4 (default) ' out)" -eq 3 ]
-    rm -f book x.csv y.csv past.hex
+    rm -f book x.csv y.csv
+    test_past_plots
+    rm -f past.hex
+}
+
+# The season before the rule of plots.
+test_past_plots() {
+    past=$here/tests/past/1.1.0
+    install -m 600 "$past/key-not-secret.hex" past.hex
+    opens_as_before "$past"
+    expect 0 "" open --key-hex past.hex --trials y.csv "$past/sealed.book" x.csv
+    same x.csv "$past/plan.csv"
+    same y.csv "$past/trials.csv"
+    expect 0 "" pack --trials "$past/trials.csv" "$past/plan.csv" book
+    same book "$past/clear.book"
+    expect 0 "" check --trials "$past/trials.csv" "$past/plan.csv"
+    echo "trials 4, plots 13, in reserve 4, bytes of the book 308" >wanted
+    same out wanted
+    rm -f book x.csv y.csv
+    row="row 1000, but rows are from 1 to 999"
+    is_refused_since "$past-row-1000" 42 1 "$row"
+    is_mended "$past-row-1000" "5: $row" 1000,4 999,4
+    half="row 0 and column 3: a plot in reserve has 0 for both, any other has both from 1 to 999"
+    is_refused_since "$past-half-in-reserve" 41 1 "$half"
+    is_mended "$past-half-in-reserve" "3: $half" 0,3 0,0
 }

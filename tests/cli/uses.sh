@@ -115,7 +115,7 @@ test_json() {
   {"trial": 41, "count": 1, "replicates": 4, "replicates_by_default": true, "start_block": "$start"}
  ],
  "records": [
-  {"trial": 41, "place": 0, "entry": 7, "replicate": 2, "row": 12, "column": 3}
+  {"trial": 41, "place": 0, "entry": 7, "replicate": 2, "row": 12, "column": 3, "reserve": false}
  ]
 }
 END
@@ -141,19 +141,19 @@ END
 }
 
 test_find() {
-    unhex 01000002 0000002900020000$start ffffffff00010000$cipher128 $record 0000002900000008030001ffff000000 \
+    unhex 01000002 0000002900020000$start ffffffff00010000$cipher128 $record 000000290000000803000103e7000000 \
         ffffffff000000090400020004000000 >in
     expect 0 "" seal --key key128 - s
     printf '     TRIAL PLACE      ENTRY REPLICATE   ROW COLUMN\n' >head
     { cat head; echo '        41     0          7         2    12      3'; } >wanted
     expect 0 "" find --key key128 s $cipher128
     same out wanted
-    { cat head; echo '        41     1          8         3     1  65535'; } >wanted
+    { cat head; echo '        41     1          8         3     1    999'; } >wanted
     expect 0 "" find --key key128 s "$("$planbook" labels s | sed -n '2s/.* //p' | tr a-f A-F)"
     same out wanted
     expect 0 "" find --key-hex hex128 s 41 1
     same out wanted
-    echo '{"trial": 4294967295, "place": 0, "entry": 9, "replicate": 4, "row": 2, "column": 4}' >wanted
+    echo '{"trial": 4294967295, "place": 0, "entry": 9, "replicate": 4, "row": 2, "column": 4, "reserve": false}' >wanted
     expect 0 "" find --json --key key128 s 4294967295 0
     same out wanted
     cp s in
@@ -218,7 +218,7 @@ test_check() {
     same out wanted
     cp "$here/examples/plan.csv" in
     expect 0 "" check --trials "$here/examples/trials.csv"
-    echo "trials 4, plots 37, bytes of the book 692" >wanted
+    echo "trials 4, plots 38, in reserve 1, bytes of the book 708" >wanted
     same out wanted
     : >before; : >after
     find . | sort >before

@@ -1,121 +1,246 @@
--- The books of past seasons. Before a trial could choose its number of replicates, bytes 6 and 7 of an entry were both zero, and a replicate was 1 to 4. That
--- rule is written down here and not in the format. The theorems say that a book with 0 in byte 6 of every entry is judged, sealed and opened exactly as
--- by it, and that whatever it accepted is accepted still, with the same count and the same bytes.
+-- The books of past seasons. Two rules came before today's: in the first, bytes 6 and 7 of an entry were both zero, and a replicate was 1 to 4; in the second,
+-- byte 6 was the number of replicates, as it is today. In both a record could have any row and any column. They are written down here and not in the
+-- format. The theorems say that a book with 0 in byte 6 of every entry, whose clear records all keep the rule of plots, is judged, sealed and opened
+-- exactly as by the first; and that whatever either accepted is accepted still, with the same count and the same bytes, where its clear records
+-- keep the rule of plots, and is refused under check 11 where one does not.
 use Prim.Native.Nat.{ℕ, _+_, _*_}
-use mathlib.Core.Bool.{Bool, true, _&&_}
+use mathlib.Core.Bool.{Bool, true, false, _&&_, and-true, and-comm}
 use mathlib.Core.List.{List, [], _∷_, _++_}
-use mathlib.Core.Path.{_≡_, refl, _∙_}
+use mathlib.Core.Path.{_≡_, refl, sym, ap, _∙_}
 use borrow.Author.Tests.{eqb-true}
 use lib.Dec.{eqb, leb, ltb}
 use lib.ListN.{length, getD, take, drop}
+use Rattle.clefia_spec.specs.Words.{choose}
 use Rattle.clefia_spec.specs.Block.{encrypt, decrypt}
 use Rattle.clefia_spec.specs.Cases.{both-true}
-use Rattle.planbook_spec.specs.Outcome.{Outcome, accepted, Check, check, judged}
-use Rattle.planbook_spec.specs.OutcomeLaws.{AllPass, pass-head, pass-tail, pass-right, passed}
+use Rattle.planbook_spec.specs.Outcome.{Outcome, refused, accepted, Check, check, judged}
+use Rattle.planbook_spec.specs.OutcomeLaws.{AllPass, judged-pass, judged-append, pass-head, pass-tail, pass-left, pass-right, Passed, passed}
 use Rattle.planbook_spec.specs.Checks.{outputCheck, keyAndWay}
-use Rattle.planbook_spec.specs.Book.{number, pieces, trial, count, replicates, entryHolds, entriesHold, recordTrial, recordEntry, recordReplicate, recordHolds, allRecordsHold, sheetCount, contents, bodies, recordCount, formChecks, sheetsHold, recordsCheck, asItIs, encryptBody, decryptBody, recoded, bookChecks, encryptBookBy, decryptBookBy, encryptBookCall, decryptBookCall}
-use Rattle.planbook_laws.specs.Undoing.{Every, nothing, both}
+use Rattle.planbook_spec.specs.Book.{number, pieces, trial, count, replicates, entryHolds, entriesHold, recordTrial, recordEntry, recordReplicate, recordRow, recordColumn, plotHolds, recordHolds, allRecordsHold, sheetCount, contents, bodies, recordCount, formChecks, sheetsHold, recordsCheck, asItIs, encryptBody, decryptBody, recoded, bookChecks, encryptBookBy, decryptBookBy, encryptBookCall, decryptBookCall}
+use Rattle.planbook_laws.specs.Undoing.{Every, nothing, both, every-map}
 
--- ---- the rule of past seasons
+-- ---- the rules of past seasons
 
-unfoldable pub pastEntryHolds : ℕ → List ℕ → Bool
-pastEntryHolds previous e = ltb previous (trial e) && leb 1 (count e) && leb (count e) 1024 && eqb (getD e 6 0) 0 && eqb (getD e 7 0) 0
+-- In what they differ: which entries hold, given the trial before them, and the greatest replicate of an entry's sheet.
+pub record PastRule : Type 0 where
+  pub holds : ℕ → List ℕ → Bool
+  pub most : List ℕ → ℕ
 
-unfoldable pub pastEntriesHold : ℕ → List (List ℕ) → Bool
-pastEntriesHold previous [] = true
-pastEntriesHold previous (e ∷ es) = pastEntryHolds previous e && pastEntriesHold (trial e) es
+-- The first, up to version 0.2: four replicates, and bytes 6 and 7 of an entry both zero.
+unfoldable pub firstEntryHolds : ℕ → List ℕ → Bool
+firstEntryHolds previous e = ltb previous (trial e) && leb 1 (count e) && leb (count e) 1024 && eqb (getD e 6 0) 0 && eqb (getD e 7 0) 0
 
-unfoldable pub pastRecordHolds : List ℕ → List ℕ → Bool
-pastRecordHolds e r = eqb (recordTrial r) (trial e) && leb 1 (recordEntry r) && leb 1 (recordReplicate r) && leb (recordReplicate r) 4 && eqb (number 13 3 r) 0
+abbrev pub firstRule : PastRule
+firstRule = record { holds = firstEntryHolds; most = λ (e : List ℕ). 4 }
 
-unfoldable pub pastAllRecordsHold : List ℕ → List (List ℕ) → Bool
-pastAllRecordsHold e [] = true
-pastAllRecordsHold e (r ∷ rs) = pastRecordHolds e r && pastAllRecordsHold e rs
+-- The second, versions 1.0 and 1.1: as many replicates as byte 6 says, at most 8, and four where it is 0.
+unfoldable pub secondReplicates : List ℕ → ℕ
+secondReplicates e = choose (eqb (getD e 6 0) 0) 4 (getD e 6 0)
 
-unfoldable pub pastSheetsHold : (List ℕ → List ℕ → List ℕ) → List (List ℕ) → List ℕ → Bool
-pastSheetsHold f [] bs = true
-pastSheetsHold f (e ∷ es) bs = pastAllRecordsHold e (pieces 16 (count e) (f e (take (16 * count e) bs))) && pastSheetsHold f es (drop (16 * count e) bs)
+unfoldable pub secondEntryHolds : ℕ → List ℕ → Bool
+secondEntryHolds previous e = ltb previous (trial e) && leb 1 (count e) && leb (count e) 1024 && leb (secondReplicates e) 8 && eqb (getD e 7 0) 0
 
--- The checks of a call on a whole book: some list cs about key and way, then 4, and 5 to 11.
-unfoldable pub pastBookChecks : List Check → ℕ → (List ℕ → List ℕ → List ℕ) → List ℕ → List ℕ → List Check
-pastBookChecks cs mark f book out =
-    cs
-    ++ (outputCheck (length book) out
+abbrev pub secondRule : PastRule
+secondRule = record { holds = secondEntryHolds; most = secondReplicates }
+
+unfoldable pub pastEntriesHold : PastRule → ℕ → List (List ℕ) → Bool
+pastEntriesHold rule previous [] = true
+pastEntriesHold rule previous (e ∷ es) = rule .holds previous e && pastEntriesHold rule (trial e) es
+
+-- Any row and any column.
+unfoldable pub pastRecordHolds : ℕ → List ℕ → List ℕ → Bool
+pastRecordHolds most e r = eqb (recordTrial r) (trial e) && leb 1 (recordEntry r) && leb 1 (recordReplicate r) && leb (recordReplicate r) most && eqb (number 13 3 r) 0
+
+unfoldable pub pastAllRecordsHold : ℕ → List ℕ → List (List ℕ) → Bool
+pastAllRecordsHold most e [] = true
+pastAllRecordsHold most e (r ∷ rs) = pastRecordHolds most e r && pastAllRecordsHold most e rs
+
+unfoldable pub pastSheetsHold : PastRule → (List ℕ → List ℕ → List ℕ) → List (List ℕ) → List ℕ → Bool
+pastSheetsHold rule f [] bs = true
+pastSheetsHold rule f (e ∷ es) bs =
+    pastAllRecordsHold (rule .most e) e (pieces 16 (count e) (f e (take (16 * count e) bs))) && pastSheetsHold rule f es (drop (16 * count e) bs)
+
+-- Checks 4 to 10.
+unfoldable pub pastFormChecks : PastRule → ℕ → List ℕ → List ℕ → List Check
+pastFormChecks rule mark book out =
+    outputCheck (length book) out
     ∷ check 5 (leb 4 (length book) && leb (length book) 65532)
     ∷ check 6 (eqb (getD book 0 0) mark && eqb (getD book 1 0) 0)
     ∷ check 7 (leb (sheetCount book) 64)
     ∷ check 8 (leb (4 + 24 * sheetCount book) (length book))
-    ∷ check 9 (pastEntriesHold 0 (contents book))
+    ∷ check 9 (pastEntriesHold rule 0 (contents book))
     ∷ check 10 (eqb (length book) (4 + 24 * sheetCount book + 16 * recordCount (contents book)))
-    ∷ check 11 (pastSheetsHold f (contents book) (bodies book))
-    ∷ [])
+    ∷ []
 
-unfoldable pub pastEncryptBookBy : List Check → (List ℕ → List ℕ) → List ℕ → List ℕ → Outcome
-pastEncryptBookBy cs E book out =
-    judged (pastBookChecks cs 1 asItIs book out) (accepted (recordCount (contents book)) (recoded 2 (encryptBody E) book))
+-- The checks of a call on a whole book: some list cs about key and way, then 4 to 10, and 11.
+unfoldable pub pastBookChecks : PastRule → List Check → ℕ → (List ℕ → List ℕ → List ℕ) → List ℕ → List ℕ → List Check
+pastBookChecks rule cs mark f book out =
+    cs ++ (pastFormChecks rule mark book out ++ (check 11 (pastSheetsHold rule f (contents book) (bodies book)) ∷ []))
 
-unfoldable pub pastDecryptBookBy : List Check → (List ℕ → List ℕ) → List ℕ → List ℕ → Outcome
-pastDecryptBookBy cs D book out =
-    judged (pastBookChecks cs 2 (decryptBody D) book out) (accepted (recordCount (contents book)) (recoded 1 (decryptBody D) book))
+unfoldable pub pastEncryptBookBy : PastRule → List Check → (List ℕ → List ℕ) → List ℕ → List ℕ → Outcome
+pastEncryptBookBy rule cs E book out =
+    judged (pastBookChecks rule cs 1 asItIs book out) (accepted (recordCount (contents book)) (recoded 2 (encryptBody E) book))
 
--- ---- 0 in byte 6 of every entry: for any cipher, and any checks cs about key and way, so for the exported calls
+unfoldable pub pastDecryptBookBy : PastRule → List Check → (List ℕ → List ℕ) → List ℕ → List ℕ → Outcome
+pastDecryptBookBy rule cs D book out =
+    judged (pastBookChecks rule cs 2 (decryptBody D) book out) (accepted (recordCount (contents book)) (recoded 1 (decryptBody D) book))
 
+-- ---- the rule of plots, of a whole book: every record keeps it, once its body has gone through f
+
+unfoldable pub allPlotsHold : List (List ℕ) → Bool
+allPlotsHold [] = true
+allPlotsHold (r ∷ rs) = plotHolds (recordRow r) (recordColumn r) && allPlotsHold rs
+
+unfoldable pub sheetPlotsHold : (List ℕ → List ℕ → List ℕ) → List (List ℕ) → List ℕ → Bool
+sheetPlotsHold f [] bs = true
+sheetPlotsHold f (e ∷ es) bs = allPlotsHold (pieces 16 (count e) (f e (take (16 * count e) bs))) && sheetPlotsHold f es (drop (16 * count e) bs)
+
+abbrev pub plotsHold : (List ℕ → List ℕ → List ℕ) → List ℕ → Bool
+plotsHold f book = sheetPlotsHold f (contents book) (bodies book)
+
+-- ---- today's rule of a record is that of past seasons and the rule of plots
+
+last-two : (a p z : Bool) → (a && p && z) ≡ (a && z && p)
+last-two true p z = and-comm p z
+last-two false p z = refl
+
+middle-two : (a p b q : Bool) → (a && p && (b && q)) ≡ (a && b && (p && q))
+middle-two true true b q = refl
+middle-two true false b q = sym (and-comm b false)
+middle-two false p b q = refl
+
+past-record : (most : ℕ) (e r : List ℕ) → replicates e ≡ most → recordHolds e r ≡ (pastRecordHolds most e r && plotHolds (recordRow r) (recordColumn r))
+unfolding recordHolds pastRecordHolds
+past-record most e r h =
+    rw h
+    (last-two (eqb (recordTrial r) (trial e) && leb 1 (recordEntry r) && leb 1 (recordReplicate r) && leb (recordReplicate r) most) (plotHolds (recordRow r) (recordColumn r)) (eqb (number 13 3 r) 0))
+
+past-records : (most : ℕ) (e : List ℕ) (rs : List (List ℕ)) → replicates e ≡ most → allRecordsHold e rs ≡ (pastAllRecordsHold most e rs && allPlotsHold rs)
+unfolding allRecordsHold pastAllRecordsHold allPlotsHold
+past-records most e [] h = refl
+past-records most e (r ∷ rs) h =
+    rw (past-record most e r h, past-records most e rs h)
+    (middle-two (pastRecordHolds most e r) (plotHolds (recordRow r) (recordColumn r)) (pastAllRecordsHold most e rs) (allPlotsHold rs))
+
+-- ---- books that a rule of past seasons and today's read alike, but for the plots
+
+-- Of an entry.
+pub record Alike (rule : PastRule) (e : List ℕ) : Type 0 where
+  pub holds : (previous : ℕ) → entryHolds previous e ≡ rule .holds previous e
+  pub most : replicates e ≡ rule .most e
+
+-- With 0 in byte 6 it is so by the first rule, and by the second always.
 abbrev pub Unnumbered : List ℕ → Type 0
 Unnumbered e = getD e 6 0 ≡ 0
 
-past-entries : (previous : ℕ) {es : List (List ℕ)} → Every Unnumbered es → entriesHold previous es ≡ pastEntriesHold previous es
-unfolding replicates entryHolds entriesHold pastEntryHolds pastEntriesHold
-past-entries previous nothing = refl
-past-entries previous (both {e = e} z every) = rw (z, past-entries (trial e) every)
+first-alike : (e : List ℕ) → Unnumbered e → Alike firstRule e
+unfolding replicates entryHolds firstEntryHolds
+first-alike e z = record { holds = λ previous. rw z; most = rw z }
 
-past-records : (e : List ℕ) (rs : List (List ℕ)) → Unnumbered e → allRecordsHold e rs ≡ pastAllRecordsHold e rs
-unfolding replicates recordHolds allRecordsHold pastRecordHolds pastAllRecordsHold
-past-records e [] z = refl
-past-records e (r ∷ rs) z = rw (past-records e rs z, z)
+second-alike : (es : List (List ℕ)) → Every (Alike secondRule) es
+unfolding replicates entryHolds secondReplicates secondEntryHolds
+second-alike [] = nothing
+second-alike (e ∷ es) = both (record { holds = λ previous. refl; most = refl }) (second-alike es)
 
-past-sheets : (f : List ℕ → List ℕ → List ℕ) (bs : List ℕ) {es : List (List ℕ)} → Every Unnumbered es → sheetsHold f es bs ≡ pastSheetsHold f es bs
-unfolding sheetsHold pastSheetsHold
-past-sheets f bs nothing = refl
-past-sheets f bs (both {e = e} z every) = rw (past-records e (pieces 16 (count e) (f e (take (16 * count e) bs))) z, past-sheets f (drop (16 * count e) bs) every)
+past-entries : (rule : PastRule) (previous : ℕ) {es : List (List ℕ)} → Every (Alike rule) es → entriesHold previous es ≡ pastEntriesHold rule previous es
+unfolding entriesHold pastEntriesHold
+past-entries rule previous nothing = refl
+past-entries rule previous (both {e = e} alike every) = rw (alike .holds previous, past-entries rule (trial e) every)
+
+past-sheets : (rule : PastRule) (f : List ℕ → List ℕ → List ℕ) (bs : List ℕ) {es : List (List ℕ)} → Every (Alike rule) es
+    → sheetsHold f es bs ≡ (pastSheetsHold rule f es bs && sheetPlotsHold f es bs)
+unfolding sheetsHold pastSheetsHold sheetPlotsHold
+past-sheets rule f bs nothing = refl
+past-sheets rule f bs (both {e = e} {es = es} alike every) =
+    rw (past-records (rule .most e) e (pieces 16 (count e) (f e (take (16 * count e) bs))) (alike .most), past-sheets rule f (drop (16 * count e) bs) every)
+    (middle-two
+    (pastAllRecordsHold (rule .most e) e (pieces 16 (count e) (f e (take (16 * count e) bs))))
+    (allPlotsHold (pieces 16 (count e) (f e (take (16 * count e) bs))))
+    (pastSheetsHold rule f es (drop (16 * count e) bs))
+    (sheetPlotsHold f es (drop (16 * count e) bs)))
+
+past-checks : (rule : PastRule) (cs : List Check) (book out : List ℕ) → Every (Alike rule) (contents book) → (mark : ℕ) (f : List ℕ → List ℕ → List ℕ)
+    → bookChecks cs mark f book out
+    ≡ cs ++ (pastFormChecks rule mark book out ++ (check 11 (pastSheetsHold rule f (contents book) (bodies book) && plotsHold f book) ∷ []))
+unfolding formChecks recordsCheck bookChecks pastFormChecks
+past-checks rule cs book out every mark f = rw (past-entries rule 0 every, past-sheets rule f (bodies book) every)
+
+-- ---- 0 in byte 6 of every entry, and the rule of plots kept: for any cipher, and any checks cs about key and way, so for the exported calls
 
 module _ (cs : List Check) (book out : List ℕ) (every : Every Unnumbered (contents book)) where
-  past-checks : (mark : ℕ) (f : List ℕ → List ℕ → List ℕ) → bookChecks cs mark f book out ≡ pastBookChecks cs mark f book out
-  unfolding formChecks recordsCheck bookChecks pastBookChecks
-  past-checks mark f = rw (past-entries 0 every, past-sheets f (bodies book) every)
+  kept-checks : (mark : ℕ) (f : List ℕ → List ℕ → List ℕ) → plotsHold f book ≡ true → bookChecks cs mark f book out ≡ pastBookChecks firstRule cs mark f book out
+  unfolding pastBookChecks
+  kept-checks mark f h = past-checks firstRule cs book out (every-map first-alike every) mark f ∙ rw (h, and-true)
 
-  pub past-encrypts : (E : List ℕ → List ℕ) → encryptBookBy cs E book out ≡ pastEncryptBookBy cs E book out
+  pub past-encrypts : (E : List ℕ → List ℕ) → plotsHold asItIs book ≡ true → encryptBookBy cs E book out ≡ pastEncryptBookBy firstRule cs E book out
   unfolding encryptBookBy pastEncryptBookBy
-  past-encrypts E = rw (past-checks 1 asItIs)
+  past-encrypts E h = rw (kept-checks 1 asItIs h)
 
-  pub past-decrypts : (D : List ℕ → List ℕ) → decryptBookBy cs D book out ≡ pastDecryptBookBy cs D book out
+  pub past-decrypts : (D : List ℕ → List ℕ) → plotsHold (decryptBody D) book ≡ true → decryptBookBy cs D book out ≡ pastDecryptBookBy firstRule cs D book out
   unfolding decryptBookBy pastDecryptBookBy
-  past-decrypts D = rw (past-checks 2 (decryptBody D))
+  past-decrypts D h = rw (kept-checks 2 (decryptBody D) h)
 
--- ---- what the rule of past seasons accepted
+-- ---- what the rules of past seasons accepted
 
-past-zero : (previous : ℕ) (e : List ℕ) → pastEntryHolds previous e ≡ true → Unnumbered e
-unfolding pastEntryHolds
+pub data Season : PastRule → Type 0 where
+  first : Season firstRule
+  second : Season secondRule
+
+past-zero : (previous : ℕ) (e : List ℕ) → firstEntryHolds previous e ≡ true → Unnumbered e
+unfolding firstEntryHolds
 past-zero previous e h =
     let front : Bool = ltb previous (trial e) && leb 1 (count e) && leb (count e) 1024 in
     eqb-true (getD e 6 0) 0 (both-true front (eqb (getD e 6 0) 0) (both-true (front && eqb (getD e 6 0) 0) (eqb (getD e 7 0) 0) h .0) .1)
 
-past-zeros : (previous : ℕ) (es : List (List ℕ)) → pastEntriesHold previous es ≡ true → Every Unnumbered es
+past-zeros : (previous : ℕ) (es : List (List ℕ)) → pastEntriesHold firstRule previous es ≡ true → Every Unnumbered es
 unfolding pastEntriesHold
 past-zeros previous [] h = nothing
 past-zeros previous (e ∷ es) h =
-    let p : (pastEntryHolds previous e ≡ true) × (pastEntriesHold (trial e) es ≡ true) = both-true (pastEntryHolds previous e) (pastEntriesHold (trial e) es) h in
+    let p : (firstEntryHolds previous e ≡ true) × (pastEntriesHold firstRule (trial e) es ≡ true) = both-true (firstEntryHolds previous e) (pastEntriesHold firstRule (trial e) es) h in
     both (past-zero previous e (p .0)) (past-zeros (trial e) es (p .1))
 
-past-every : (cs : List Check) (mark : ℕ) (f : List ℕ → List ℕ → List ℕ) (book out : List ℕ) → AllPass (pastBookChecks cs mark f book out) → Every Unnumbered (contents book)
-unfolding pastBookChecks
-past-every cs mark f book out p =
-    past-zeros 0 (contents book) (pass-head (pass-tail (pass-tail (pass-tail (pass-tail (pass-tail (pass-right cs _ p)))))))
+past-alike : {rule : PastRule} → Season rule → (mark : ℕ) (book out : List ℕ) → AllPass (pastFormChecks rule mark book out) → Every (Alike rule) (contents book)
+unfolding pastFormChecks
+past-alike first mark book out p =
+    every-map first-alike (past-zeros 0 (contents book) (pass-head (pass-tail (pass-tail (pass-tail (pass-tail (pass-tail p)))))))
+past-alike second mark book out p = second-alike (contents book)
 
-module _ (key : List ℕ) (way : ℕ) (book out : List ℕ) {n : ℕ} {bs : List ℕ} where
-  pub past-accepted-encrypts : pastEncryptBookBy (keyAndWay key way) (encrypt key) book out ≡ accepted n bs → encryptBookCall key way book out ≡ accepted n bs
-  unfolding pastEncryptBookBy encryptBookCall
-  past-accepted-encrypts a = past-encrypts (keyAndWay key way) book out (past-every _ 1 asItIs book out (passed _ _ _ a .checks)) (encrypt key) ∙ a
+-- A last check is held to more than it was: all the others have passed.
+one-check : (c : ℕ) (q : Bool) (o : Outcome) → judged (check c q ∷ []) o ≡ choose q o (refused c)
+unfolding judged
+one-check c true o = refl
+one-check c false o = refl
 
-  pub past-accepted-decrypts : pastDecryptBookBy (keyAndWay key way) (decrypt key) book out ≡ accepted n bs → decryptBookCall key way book out ≡ accepted n bs
-  unfolding pastDecryptBookBy decryptBookCall
-  past-accepted-decrypts a = past-decrypts (keyAndWay key way) book out (past-every _ 2 (decryptBody (decrypt key)) book out (passed _ _ _ a .checks)) (decrypt key) ∙ a
+last-check : (c : ℕ) (cs ds : List Check) (p q : Bool) (o : Outcome) → AllPass (cs ++ (ds ++ (check c p ∷ [])))
+    → judged (cs ++ (ds ++ (check c (p && q) ∷ []))) o ≡ choose q o (refused c)
+last-check c cs ds p q o a =
+    let b : AllPass (ds ++ (check c p ∷ [])) = pass-right cs _ a in
+    let t : p ≡ true = pass-head (pass-right ds _ b) in
+    judged-append cs (ds ++ (check c (p && q) ∷ [])) o
+    ∙ judged-pass (pass-left cs _ a) _
+    ∙ judged-append ds (check c (p && q) ∷ []) o
+    ∙ judged-pass (pass-left ds _ b) _
+    ∙ rw t (one-check c q o)
+
+module _ {rule : PastRule} (season : Season rule) (cs : List Check) (mark : ℕ) (f : List ℕ → List ℕ → List ℕ) (book out : List ℕ) (o : Outcome) where
+  past-judged : AllPass (pastBookChecks rule cs mark f book out) → judged (bookChecks cs mark f book out) o ≡ choose (plotsHold f book) o (refused 11)
+  unfolding pastBookChecks
+  past-judged p =
+      let every : Every (Alike rule) (contents book) = past-alike season mark book out (pass-left (pastFormChecks rule mark book out) _ (pass-right cs _ p)) in
+      ap (λ (ks : List Check). judged ks o) (past-checks rule cs book out every mark f)
+      ∙ last-check 11 cs (pastFormChecks rule mark book out) (pastSheetsHold rule f (contents book) (bodies book)) (plotsHold f book) o p
+
+module _ {rule : PastRule} (season : Season rule) (key : List ℕ) (way : ℕ) (book out : List ℕ) {n : ℕ} {bs : List ℕ} where
+  pub past-accepted-encrypts : pastEncryptBookBy rule (keyAndWay key way) (encrypt key) book out ≡ accepted n bs
+      → encryptBookCall key way book out ≡ choose (plotsHold asItIs book) (accepted n bs) (refused 11)
+  unfolding pastEncryptBookBy encryptBookBy encryptBookCall
+  past-accepted-encrypts a =
+      let p : Passed _ _ n _ bs = passed _ _ _ a in
+      past-judged season (keyAndWay key way) 1 asItIs book out _ (p .checks) ∙ rw (p .sameCount, p .sameBytes)
+
+  pub past-accepted-decrypts : pastDecryptBookBy rule (keyAndWay key way) (decrypt key) book out ≡ accepted n bs
+      → decryptBookCall key way book out ≡ choose (plotsHold (decryptBody (decrypt key)) book) (accepted n bs) (refused 11)
+  unfolding pastDecryptBookBy decryptBookBy decryptBookCall
+  past-accepted-decrypts a =
+      let p : Passed _ _ n _ bs = passed _ _ _ a in
+      past-judged season (keyAndWay key way) 2 (decryptBody (decrypt key)) book out _ (p .checks) ∙ rw (p .sameCount, p .sameBytes)

@@ -5,11 +5,11 @@ use mathlib.Core.List.{List, [], _∷_, _++_}
 use mathlib.Core.Path.{refl}
 use lib.ListN.{take, drop, set, replicate}
 use lib.Seq.{sets}
-use Rattle.clefia_spec.specs.Words.{fromDigits, xors}
+use Rattle.clefia_spec.specs.Words.{fromDigits, toDigits, xors}
 use Rattle.clefia_spec.specs.Cases.{Case, _gives_, AllHold, allSame, computed}
 use Rattle.planbook_spec.specs.Outcome.{answer, after, judged}
 use Rattle.planbook_spec.specs.Checks.{keyCheck, wayCheck, blockCheck, outputCheck, constantCount, expandedCount, constantsCall, expandKeyCall, blockChecks, encryptBlockCall, decryptBlockCall}
-use Rattle.planbook_spec.specs.Book.{number, pieces, replicates, entryHolds, entriesHold, recordHolds, allRecordsHold, recordCount, formChecks, eachBody, sheetsHold, recordsCheck, cbcEncrypt, cbcDecrypt, encryptBody, decryptBody, recoded, bookChecks, encryptBookBy, decryptBookBy, encryptBookCall, decryptBookCall}
+use Rattle.planbook_spec.specs.Book.{number, pieces, replicates, entryHolds, entriesHold, plotHolds, recordHolds, allRecordsHold, recordCount, formChecks, eachBody, sheetsHold, recordsCheck, cbcEncrypt, cbcDecrypt, encryptBody, decryptBody, recoded, bookChecks, encryptBookBy, decryptBookBy, encryptBookCall, decryptBookCall}
 
 -- The toy: the bytes of a block rotated by one place.
 abbrev pub toyEncrypt : List ℕ → List ℕ
@@ -33,13 +33,29 @@ rising (suc n) v = v ∷ rising n (v + 1)
 abbrev pub entryOf : ℕ → ℕ → ℕ → List ℕ
 entryOf t n v = 0 ∷ 0 ∷ 0 ∷ t ∷ 0 ∷ n ∷ 0 ∷ 0 ∷ rising 16 v
 
--- A clear book of one record: trial 41, entry 7, replicate 2. The entry stands at byte 4, the record at byte 28.
+-- A clear book of one record: trial 41, entry 7, replicate 2, in reserve. The entry stands at byte 4, the record at byte 28.
 abbrev pub small : List ℕ
 small = 1 ∷ 0 ∷ 0 ∷ 1 ∷ entryOf 41 1 0x10 ++ (0 ∷ 0 ∷ 0 ∷ 41 ∷ 0 ∷ 0 ∷ 0 ∷ 7 ∷ 2 ∷ replicate 7 0)
 
 -- The same with byte 6 of its entry, the number of replicates, and with a replicate of its record.
 abbrev pub replicated : ℕ → ℕ → List ℕ
 replicated b r = set (set small 10 b) 36 r
+
+-- The same with a row and a column, clear and encrypted: their four bytes stand at 37 and, rotated and added to those of the iv, at 36.
+abbrev pub encryptedSmall : List ℕ
+encryptedSmall =
+    2 ∷ 0 ∷ 0 ∷ 1 ∷ entryOf 41 1 0x10
+    ++ (0x11 ∷ 0x12 ∷ 0x3a ∷ 0x14 ∷ 0x15 ∷ 0x16 ∷ 0x10 ∷ 0x1a ∷ 0x19 ∷ 0x1a ∷ 0x1b ∷ 0x1c ∷ 0x1d ∷ 0x1e ∷ 0x1f ∷ 0x10 ∷ [])
+
+abbrev pub plot : ℕ → ℕ → List ℕ
+plot row column = toDigits 256 2 row ++ toDigits 256 2 column
+
+-- What both calls answer to the plot.
+abbrev pub plotAnswers : ℕ → ℕ → List ℕ
+plotAnswers row column =
+    encrypting (sets small 37 (plot row column))
+    ∷ decrypting (sets encryptedSmall 36 (xors (plot row column) (0x19 ∷ 0x1a ∷ 0x1b ∷ 0x1c ∷ [])))
+    ∷ []
 
 -- A clear book of two sheets, of two records and of one: entries at bytes 4 and 28, records at 52, 68 and 84.
 abbrev pub twoEntries : List ℕ
@@ -49,7 +65,7 @@ abbrev pub large : List ℕ
 large =
     1 ∷ 0 ∷ 0 ∷ 2 ∷ twoEntries
     ++ (0 ∷ 0 ∷ 0 ∷ 0x29 ∷ 0 ∷ 0 ∷ 0 ∷ 7 ∷ 2 ∷ 0 ∷ 0x0c ∷ 0 ∷ 3 ∷ 0 ∷ 0 ∷ 0 ∷ [])
-    ++ (0 ∷ 0 ∷ 0 ∷ 0x29 ∷ 0 ∷ 0 ∷ 0 ∷ 8 ∷ 4 ∷ 0xff ∷ 0xff ∷ 0xff ∷ 0xff ∷ 0 ∷ 0 ∷ 0 ∷ [])
+    ++ (0 ∷ 0 ∷ 0 ∷ 0x29 ∷ 0 ∷ 0 ∷ 0 ∷ 8 ∷ 4 ∷ 3 ∷ 0xe7 ∷ 3 ∷ 0xe7 ∷ 0 ∷ 0 ∷ 0 ∷ [])
     ++ (0 ∷ 0 ∷ 0 ∷ 0x2a ∷ 0 ∷ 0 ∷ 0 ∷ 7 ∷ 1 ∷ 0 ∷ 0 ∷ 0 ∷ 0 ∷ 0 ∷ 0 ∷ 0 ∷ [])
 
 -- What it is encrypted to. The second record is added to the first encrypted one; the third, in a sheet of its own, to its own iv.
@@ -57,7 +73,7 @@ abbrev pub encryptedLarge : List ℕ
 encryptedLarge =
     2 ∷ 0 ∷ 0 ∷ 2 ∷ twoEntries
     ++ (0x11 ∷ 0x12 ∷ 0x3a ∷ 0x14 ∷ 0x15 ∷ 0x16 ∷ 0x10 ∷ 0x1a ∷ 0x19 ∷ 0x16 ∷ 0x1b ∷ 0x1f ∷ 0x1d ∷ 0x1e ∷ 0x1f ∷ 0x10 ∷ [])
-    ++ (0x12 ∷ 0x3a ∷ 0x3d ∷ 0x15 ∷ 0x16 ∷ 0x10 ∷ 0x12 ∷ 0x1d ∷ 0xe9 ∷ 0xe4 ∷ 0xe0 ∷ 0xe2 ∷ 0x1e ∷ 0x1f ∷ 0x10 ∷ 0x11 ∷ [])
+    ++ (0x12 ∷ 0x3a ∷ 0x3d ∷ 0x15 ∷ 0x16 ∷ 0x10 ∷ 0x12 ∷ 0x1d ∷ 0x15 ∷ 0xfc ∷ 0x1c ∷ 0xfa ∷ 0x1e ∷ 0x1f ∷ 0x10 ∷ 0x11 ∷ [])
     ++ (0x21 ∷ 0x22 ∷ 0x09 ∷ 0x24 ∷ 0x25 ∷ 0x26 ∷ 0x20 ∷ 0x29 ∷ 0x29 ∷ 0x2a ∷ 0x2b ∷ 0x2c ∷ 0x2d ∷ 0x2e ∷ 0x2f ∷ 0x20 ∷ [])
 
 pub bookCases : List Case
@@ -104,13 +120,12 @@ bookCases =
     ∷ (encrypting (set small 43 1) ∷ [] gives 11 * 2 ^ 32 ∷ [])
     ∷ (encrypting (set large 76 0) ∷ [] gives 11 * 2 ^ 32 ∷ [])
     ∷ (encrypting (set large 92 0) ∷ [] gives 11 * 2 ^ 32 ∷ [])
-    -- accepted: trial 1; entry 1, and one that has its first byte alone; a trial that has its first byte alone; any row and column; the highest trial
-    -- and entry
+    -- accepted: trial 1; entry 1, and one that has its first byte alone; a trial that has its first byte alone; the highest trial and
+    -- entry
     ∷ (encrypting (set (set small 7 1) 31 1) ∷ [] gives 1 ∷ [])
     ∷ (encrypting (set small 35 1) ∷ [] gives 1 ∷ [])
     ∷ (encrypting (sets small 32 (1 ∷ 0 ∷ 0 ∷ 0 ∷ [])) ∷ [] gives 1 ∷ [])
     ∷ (encrypting (sets (sets small 28 (1 ∷ 0 ∷ 0 ∷ 0 ∷ [])) 4 (1 ∷ 0 ∷ 0 ∷ 0 ∷ [])) ∷ [] gives 1 ∷ [])
-    ∷ (encrypting (sets small 37 (255 ∷ 255 ∷ 255 ∷ 255 ∷ [])) ∷ [] gives 1 ∷ [])
     ∷ (encrypting (sets (sets small 28 (replicate 8 255)) 4 (replicate 4 255)) ∷ [] gives 1 ∷ [])
     -- byte 6 of an entry: 0, 1, 4 and 8 are accepted; 9 and 255 are not, and 9 comes before 11
     ∷ (encrypting (replicated 0 1) ∷ encrypting (replicated 1 1) ∷ encrypting (replicated 4 1) ∷ encrypting (replicated 8 1) ∷ [] gives 1 ∷ 1 ∷ 1 ∷ 1 ∷ [])
@@ -126,6 +141,12 @@ bookCases =
     -- 0 and 4 in byte 6 are two books, and in what they become that byte alone differs
     ∷ (encrypting (set large 10 4) ∷ after large (encryptBookBy [] toyEncrypt (set large 10 4) large) gives 3 ∷ set encryptedLarge 10 4)
     ∷ (decrypting (set encryptedLarge 10 4) ∷ after large (decryptBookBy [] toyDecrypt (set encryptedLarge 10 4) large) gives 3 ∷ set large 10 4)
+    -- row and column, encrypting and decrypting: accepted; one of the two 0; one or both beyond 999
+    ∷ (plotAnswers 0 0 ++ plotAnswers 1 1 ++ plotAnswers 999 999 ++ plotAnswers 1 999 ++ plotAnswers 999 1 gives replicate 10 1)
+    ∷ (plotAnswers 256 1 ++ plotAnswers 1 256 gives replicate 4 1)
+    ∷ (plotAnswers 0 1 ++ plotAnswers 1 0 ++ plotAnswers 999 0 ++ plotAnswers 0 999 ++ plotAnswers 256 0 ++ plotAnswers 0 256 gives replicate 12 (11 * 2 ^ 32))
+    ∷ (plotAnswers 0 1000 ++ plotAnswers 1000 0 ++ plotAnswers 1000 1 ++ plotAnswers 1 1000 ++ plotAnswers 1000 1000 gives replicate 10 (11 * 2 ^ 32))
+    ∷ (plotAnswers 1025 1 ++ plotAnswers 1 1025 ++ plotAnswers 65535 65535 gives replicate 6 (11 * 2 ^ 32))
     -- 4 comes before 5
     ∷ (answer (encryptBookBy [] toyEncrypt (1 ∷ 0 ∷ 0 ∷ []) (replicate 4 0)) ∷ [] gives 4 * 2 ^ 32 ∷ [])
     -- decrypting: a clear book; clear records under the mark of a sealed book; replicate 5, and 4, once the chain is undone
@@ -140,7 +161,7 @@ bookCases =
     ∷ []
 
 pub bookCases-hold : AllHold bookCases
-unfolding bookCases rising allSame fromDigits xors answer after judged outputCheck number pieces replicates entryHolds entriesHold recordHolds allRecordsHold recordCount formChecks eachBody sheetsHold recordsCheck cbcEncrypt cbcDecrypt encryptBody decryptBody recoded bookChecks encryptBookBy decryptBookBy
+unfolding bookCases rising allSame fromDigits toDigits xors answer after judged outputCheck number pieces replicates entryHolds entriesHold plotHolds recordHolds allRecordsHold recordCount formChecks eachBody sheetsHold recordsCheck cbcEncrypt cbcDecrypt encryptBody decryptBody recoded bookChecks encryptBookBy decryptBookBy
 bookCases-hold = computed bookCases refl
 
 -- Checks 1 to 5, most with two or more that fail at once, and the counts.

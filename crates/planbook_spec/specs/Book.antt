@@ -4,7 +4,7 @@
 -- is records of 16 bytes, as many as its entry says. An entry is its 24 bytes here and a record its 16, and the names below read numbers out of
 -- them. Numbers are unsigned, highest byte first.
 use Prim.Native.Nat.{ℕ, zero, suc, _+_, _*_}
-use mathlib.Core.Bool.{Bool, true, _&&_}
+use mathlib.Core.Bool.{Bool, true, _&&_, _||_}
 use mathlib.Core.List.{List, [], _∷_, _++_}
 use lib.Dec.{eqb, leb, ltb}
 use lib.ListN.{length, getD, take, drop}
@@ -55,10 +55,26 @@ recordEntry r = number 4 4 r
 abbrev pub recordReplicate : List ℕ → ℕ
 recordReplicate r = getD r 8 0
 
+abbrev pub recordRow : List ℕ → ℕ
+recordRow r = number 9 2 r
+
+abbrev pub recordColumn : List ℕ → ℕ
+recordColumn r = number 11 2 r
+
+-- What holds of a plot: row and column are both 0, which means reserve, a spare plant that has no place yet, or both from 1 to 999.
+unfoldable pub plotHolds : ℕ → ℕ → Bool
+plotHolds row column = (eqb row 0 && eqb column 0) || (leb 1 row && leb row 999 && leb 1 column && leb column 999)
+
 -- What holds of a record, given the entry e of its sheet: the trial is the sheet's, the entry at least 1, the replicate from 1 to the sheet's number of
--- replicates, any row, any column, and the last three bytes zero.
+-- replicates, row and column those of a plot, and the last three bytes zero.
 unfoldable pub recordHolds : List ℕ → List ℕ → Bool
-recordHolds e r = eqb (recordTrial r) (trial e) && leb 1 (recordEntry r) && leb 1 (recordReplicate r) && leb (recordReplicate r) (replicates e) && eqb (number 13 3 r) 0
+recordHolds e r =
+    eqb (recordTrial r) (trial e)
+    && leb 1 (recordEntry r)
+    && leb 1 (recordReplicate r)
+    && leb (recordReplicate r) (replicates e)
+    && plotHolds (recordRow r) (recordColumn r)
+    && eqb (number 13 3 r) 0
 
 unfoldable pub allRecordsHold : List ℕ → List (List ℕ) → Bool
 allRecordsHold e [] = true

@@ -25,14 +25,16 @@ fn entry_word(trial: usize, count: usize, place: usize) -> usize {
     }
 }
 
-// A word of the record of a number that counts from 0: replicates 1 to 4 in turn, row and column the number.
+// A word of the record of a number that counts from 0: replicates 1 to 4 in turn, row and column the number modulo 1,000, so that every record
+// keeps the rule of plots. The first is in reserve.
 fn record_word(trial: usize, number: usize, place: usize) -> usize {
     let n = number % 65536;
+    let m = n % 1000;
     match place {
         0 => trial,
         1 => n + 1,
-        2 => (n % 4 + 1) * 16777216 + n * 256 + n / 256,
-        _ => n % 256 * 16777216,
+        2 => (n % 4 + 1) * 16777216 + m * 256 + m / 256,
+        _ => m % 256 * 16777216,
     }
 }
 

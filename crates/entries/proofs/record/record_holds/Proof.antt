@@ -1,7 +1,7 @@
 -- `entries::record::record_holds` meets its contract.
 use mir.Syntax.{w32}
 use Prim.Native.Nat.{ℕ, _^_, _<_}
-use mathlib.Core.Path.{ap, _∙_}
+use mathlib.Core.Path.{ap}
 use lib.ListN.{getD}
 use Rattle.entries.specs.declared.entry.Sheet.{Sheet}
 use Rattle.entries.specs.Blocks.{record-row}
@@ -13,9 +13,9 @@ returns : tie.Need-returns
 returns c =
     let a : tie.Start = c .before .before .before in
     let fits : (i : ℕ) → getD (a .args .t2) i 0 < 2 ^ 32 = λ i. elem-fits w32 w32 (a .args .t2) _ i (a .good .1 .0 .1 .1) tt .fits in
-    λ e h. c .all .ensures ∙ record-row e (a .args .t2) (search needs) (fits 0) (fits 1) (fits 2) (ap (λ (s : Sheet). s .trial) h) (ap (λ (s : Sheet). s .replicates) h)
+    λ e h. rw (c .plot-holds .ensures) (record-row e (a .args .t2) (search needs) fits (ap (λ (s : Sheet). s .trial) h) (ap (λ (s : Sheet). s .replicates) h))
 
 pub record-holds-spec : {M : Type 1} → statement M
 record-holds-spec =
     tie.close
-    (tie.spec (λ c. search needs) (λ c. search needs) (λ c. search needs) (λ c. search needs) (λ c κs. search needs) returns)
+    (tie.spec (λ c. search needs) (λ c. search needs) (λ c. search needs) (λ c. search needs) (λ c. search needs) (λ c κs. search needs) (λ c. search needs) returns)
