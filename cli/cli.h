@@ -274,9 +274,9 @@ struct bytes csv_field(const struct csv *csv, size_t column);
 
 /*
  * The decimal number that a field is. One that is none, or above the most, is reported: the title is what the number is called,
- * and the permitted is the greatest that the message names. What lies between the two is for others to refuse.
+ * and named is the greatest number that the message names. What lies between the two is for others to refuse.
  */
-bool csv_take_number(const struct csv *csv, size_t column, const char *title, uint32_t most, uint32_t permitted, uint32_t *number);
+bool csv_take_number(const struct csv *csv, size_t column, const char *title, uint32_t most, uint32_t named, uint32_t *number);
 
 /* The header that names these columns. */
 struct text;

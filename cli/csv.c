@@ -147,12 +147,12 @@ static bool csv_number(const struct csv *csv, size_t column, uint32_t most, uint
     return good;
 }
 
-bool csv_take_number(const struct csv *csv, size_t column, const char *title, uint32_t most, uint32_t permitted, uint32_t *number)
+bool csv_take_number(const struct csv *csv, size_t column, const char *title, uint32_t most, uint32_t named, uint32_t *number)
 {
     bool good = csv_number(csv, column, most, number);
     if (!good)
         report(PLANBOOK_ACCEPTED, "%s, line %zu: the %s %s is not a number from 0 to %u", csv->name, csv->line, title,
-               csv_found(csv_field(csv, column)), (unsigned)permitted);
+               csv_found(csv_field(csv, column)), (unsigned)named);
     return good;
 }
 

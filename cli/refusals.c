@@ -68,7 +68,7 @@ static void refuse_body_length(const char *name, struct bytes book)
            book.len < said ? "its end is missing" : "something was added");
 }
 
-/* One in a message. */
+/* A fault as a sentence; the next call overwrites it. */
 static const char *fault(const char *format, ...) __attribute__((format(printf, 1, 2)));
 static const char *fault(const char *format, ...)
 {
@@ -97,9 +97,9 @@ const char *record_fault(const struct record *record, const struct sheet *sheet)
         return fault("replicate %u, but trial %u has %u%s", (unsigned)record->replicate, trial, replicates,
                      sheet->replicates == 0 ? ", the default" : "");
     if (row > PLANBOOK_MAX_ROW)
-        return fault("row %u, but rows are from 1 to %d", row, PLANBOOK_MAX_ROW);
+        return fault("row %u, but rows are from 1 to %d, or 0 in reserve", row, PLANBOOK_MAX_ROW);
     if (column > PLANBOOK_MAX_COLUMN)
-        return fault("column %u, but columns are from 1 to %d", column, PLANBOOK_MAX_COLUMN);
+        return fault("column %u, but columns are from 1 to %d, or 0 in reserve", column, PLANBOOK_MAX_COLUMN);
     if ((row == 0) != (column == 0))
         return fault("row %u and column %u: a plot in reserve has 0 for both, any other has both from 1 to %d", row, column,
                      PLANBOOK_MAX_ROW);

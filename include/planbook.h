@@ -5,7 +5,8 @@
  *
  * A plan book is a byte string that says which plants of a field trial stand where. It has a head, a table of contents
  * with one entry for each sheet (one sheet to a trial), and the bodies of the sheets, which are records of 16 bytes.
- * Each trial chooses its number of replicates, up to 8; it stands in the contents entry, where 0 means 4.
+ * Each trial chooses its number of replicates, up to 8; it stands in the contents entry, where 0 means 4. A record's row
+ * and column are both from 1 to 999, or both 0: then it is in reserve, a spare plant that has no place yet.
  * A clear book begins with 01 00, a sealed one with 02 00. Sealing encrypts every body with CLEFIA in CBC mode: each
  * sheet has a chain of its own, which begins at the start block (the field's word: IV) that stands in its contents
  * entry. Head and contents are copied, but for the first byte. A sealed book is as long as the clear one. The format is
@@ -141,7 +142,7 @@ extern "C" {
 #define PLANBOOK_MAX_SHEET_RECORDS 1024
 #define PLANBOOK_MAX_REPLICATES 8
 #define PLANBOOK_DEFAULT_REPLICATES 4 /* what 0 in byte 6 of a contents entry stands for, as in the books of past seasons */
-#define PLANBOOK_MAX_ROW 999 /* row and column are both 1 to 999, or both 0: in reserve, a spare plant that has no place yet */
+#define PLANBOOK_MAX_ROW 999 /* the least is 1, for both; 0 for both means reserve */
 #define PLANBOOK_MAX_COLUMN 999
 #define PLANBOOK_MIN_BOOK_BYTES 4
 #define PLANBOOK_MAX_BOOK_BYTES 65532

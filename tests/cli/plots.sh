@@ -53,10 +53,10 @@ test_plots() {
             "row ${plot%,*} and column ${plot#*,}: a plot in reserve has 0 for both, any other has both from 1 to 999"
     done
     for plot in 1000,0 1000,1 1000,1000 1025,1 32769,1 65535,65535; do
-        bad_plot ${plot%,*} ${plot#*,} "row ${plot%,*}, but rows are from 1 to 999"
+        bad_plot ${plot%,*} ${plot#*,} "row ${plot%,*}, but rows are from 1 to 999, or 0 in reserve"
     done
     for plot in 0,1000 1,1000 1,1025 1,32769 999,65535; do
-        bad_plot ${plot%,*} ${plot#*,} "column ${plot#*,}, but columns are from 1 to 999"
+        bad_plot ${plot%,*} ${plot#*,} "column ${plot#*,}, but columns are from 1 to 999, or 0 in reserve"
     done
     # a sealed book is refused for its records alone: what can be read without the key is still printed
     expect 0 "" labels plot.sealed

@@ -272,7 +272,7 @@ static void write_mixed_csv(void)
     write_mixed_trials();
 }
 
-/* Tables. Numbers stand right under their names, and so does the word reserve, under both of its. */
+/* Tables. Numbers stand right under their names; the word reserve ends where the number of the column would. */
 
 static void write_head(FILE *to, const char *kind)
 {

@@ -201,8 +201,8 @@ test_books() {
     bad_clear 11 ", trial 41, place 0: entry 0, but entries begin at 1" 01000001 $entry 000000290000000000ffffffff000001
     bad_clear 11 ", trial 41, place 0: replicate 0, but replicates begin at 1" 01000001 $entry 000000290000000700ffffffff000001
     bad_clear 11 ", trial 41, place 0: replicate 5, but trial 41 has 4, the default" 01000001 $entry 000000290000000705ffffffff000001
-    bad_clear 11 ", trial 41, place 0: row 65535, but rows are from 1 to 999" 01000001 $entry 000000290000000702ffffffff000001
-    bad_clear 11 ", trial 41, place 0: column 65535, but columns are from 1 to 999" 01000001 $entry 0000002900000007020000ffff000001
+    bad_clear 11 ", trial 41, place 0: row 65535, but rows are from 1 to 999, or 0 in reserve" 01000001 $entry 000000290000000702ffffffff000001
+    bad_clear 11 ", trial 41, place 0: column 65535, but columns are from 1 to 999, or 0 in reserve" 01000001 $entry 0000002900000007020000ffff000001
     bad_sealed 5 " has 0 bytes, and a plan book has at least 4"
     bad_sealed 5 " has 3 bytes, and a plan book has at least 4" 020000
     bad_sealed 6 " is a clear book, and a sealed one is needed here" 01000001 $entry $record

@@ -241,7 +241,7 @@ test_past_plots() {
     echo "trials 4, plots 13, in reserve 4, bytes of the book 308" >wanted
     same out wanted
     rm -f book x.csv y.csv
-    row="row 1000, but rows are from 1 to 999"
+    row="row 1000, but rows are from 1 to 999, or 0 in reserve"
     is_refused_since "$past-row-1000" 42 1 "$row"
     is_mended "$past-row-1000" "5: $row" 1000,4 999,4
     half="row 0 and column 3: a plot in reserve has 0 for both, any other has both from 1 to 999"

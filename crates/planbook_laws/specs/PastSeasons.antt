@@ -205,7 +205,7 @@ past-alike first mark book out p =
     every-map first-alike (past-zeros 0 (contents book) (pass-head (pass-tail (pass-tail (pass-tail (pass-tail (pass-tail p)))))))
 past-alike second mark book out p = second-alike (contents book)
 
--- A last check is held to more than it was: all the others have passed.
+-- Where all checks passed, and of the last one q is asked too, q alone decides.
 one-check : (c : ℕ) (q : Bool) (o : Outcome) → judged (check c q ∷ []) o ≡ choose q o (refused c)
 unfolding judged
 one-check c true o = refl

@@ -41,16 +41,17 @@ small = 1 ∷ 0 ∷ 0 ∷ 1 ∷ entryOf 41 1 0x10 ++ (0 ∷ 0 ∷ 0 ∷ 41 ∷ 0
 abbrev pub replicated : ℕ → ℕ → List ℕ
 replicated b r = set (set small 10 b) 36 r
 
--- The same with a row and a column, clear and encrypted: their four bytes stand at 37 and, rotated and added to those of the iv, at 36.
+-- What it is encrypted to.
 abbrev pub encryptedSmall : List ℕ
 encryptedSmall =
     2 ∷ 0 ∷ 0 ∷ 1 ∷ entryOf 41 1 0x10
     ++ (0x11 ∷ 0x12 ∷ 0x3a ∷ 0x14 ∷ 0x15 ∷ 0x16 ∷ 0x10 ∷ 0x1a ∷ 0x19 ∷ 0x1a ∷ 0x1b ∷ 0x1c ∷ 0x1d ∷ 0x1e ∷ 0x1f ∷ 0x10 ∷ [])
 
+-- The four bytes of a row and a column. They stand at 37 in the clear book and, each added to its byte of the iv, at 36 in the encrypted one: the toy rotates.
 abbrev pub plot : ℕ → ℕ → List ℕ
 plot row column = toDigits 256 2 row ++ toDigits 256 2 column
 
--- What both calls answer to the plot.
+-- What both calls answer to the book with this plot.
 abbrev pub plotAnswers : ℕ → ℕ → List ℕ
 plotAnswers row column =
     encrypting (sets small 37 (plot row column))

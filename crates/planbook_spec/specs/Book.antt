@@ -61,7 +61,8 @@ recordRow r = number 9 2 r
 abbrev pub recordColumn : List ℕ → ℕ
 recordColumn r = number 11 2 r
 
--- What holds of a plot: row and column are both 0, which means reserve, a spare plant that has no place yet, or both from 1 to 999.
+-- What holds of a plot: row and column are both 0, which means reserve, a spare plant that has no place yet, or both from 1 to 999. (Document 01 has any row
+-- and any column; document 02 puts this rule in their place.)
 unfoldable pub plotHolds : ℕ → ℕ → Bool
 plotHolds row column = (eqb row 0 && eqb column 0) || (leb 1 row && leb row 999 && leb 1 column && leb column 999)
 
