@@ -47,18 +47,18 @@ unfoldable pub pastEntriesHold : PastRule → ℕ → List (List ℕ) → Bool
 pastEntriesHold rule previous [] = true
 pastEntriesHold rule previous (e ∷ es) = rule .holds previous e && pastEntriesHold rule (trial e) es
 
--- Any row and any column.
-unfoldable pub pastRecordHolds : ℕ → List ℕ → List ℕ → Bool
-pastRecordHolds most e r = eqb (recordTrial r) (trial e) && leb 1 (recordEntry r) && leb 1 (recordReplicate r) && leb (recordReplicate r) most && eqb (number 13 3 r) 0
+-- A record, given the entry of its sheet: any row and any column.
+unfoldable pub pastRecordHolds : PastRule → List ℕ → List ℕ → Bool
+pastRecordHolds rule e r = eqb (recordTrial r) (trial e) && leb 1 (recordEntry r) && leb 1 (recordReplicate r) && leb (recordReplicate r) (rule .most e) && eqb (number 13 3 r) 0
 
-unfoldable pub pastAllRecordsHold : ℕ → List ℕ → List (List ℕ) → Bool
-pastAllRecordsHold most e [] = true
-pastAllRecordsHold most e (r ∷ rs) = pastRecordHolds most e r && pastAllRecordsHold most e rs
+-- Whether P holds of every record of a sheet; and of every sheet, given its entry, once its body has gone through f.
+unfoldable pub everyRecord : (List ℕ → Bool) → List (List ℕ) → Bool
+everyRecord P [] = true
+everyRecord P (r ∷ rs) = P r && everyRecord P rs
 
-unfoldable pub pastSheetsHold : PastRule → (List ℕ → List ℕ → List ℕ) → List (List ℕ) → List ℕ → Bool
-pastSheetsHold rule f [] bs = true
-pastSheetsHold rule f (e ∷ es) bs =
-    pastAllRecordsHold (rule .most e) e (pieces 16 (count e) (f e (take (16 * count e) bs))) && pastSheetsHold rule f es (drop (16 * count e) bs)
+unfoldable pub everySheet : (List ℕ → List ℕ → Bool) → (List ℕ → List ℕ → List ℕ) → List (List ℕ) → List ℕ → Bool
+everySheet P f [] bs = true
+everySheet P f (e ∷ es) bs = everyRecord (P e) (pieces 16 (count e) (f e (take (16 * count e) bs))) && everySheet P f es (drop (16 * count e) bs)
 
 -- Checks 4 to 10.
 unfoldable pub pastFormChecks : PastRule → ℕ → List ℕ → List ℕ → List Check
@@ -75,7 +75,7 @@ pastFormChecks rule mark book out =
 -- The checks of a call on a whole book: some list cs about key and way, then 4 to 10, and 11.
 unfoldable pub pastBookChecks : PastRule → List Check → ℕ → (List ℕ → List ℕ → List ℕ) → List ℕ → List ℕ → List Check
 pastBookChecks rule cs mark f book out =
-    cs ++ (pastFormChecks rule mark book out ++ (check 11 (pastSheetsHold rule f (contents book) (bodies book)) ∷ []))
+    cs ++ (pastFormChecks rule mark book out ++ (check 11 (everySheet (pastRecordHolds rule) f (contents book) (bodies book)) ∷ []))
 
 unfoldable pub pastEncryptBookBy : PastRule → List Check → (List ℕ → List ℕ) → List ℕ → List ℕ → Outcome
 pastEncryptBookBy rule cs E book out =
@@ -87,16 +87,11 @@ pastDecryptBookBy rule cs D book out =
 
 -- ---- the rule of plots, of a whole book: every record keeps it, once its body has gone through f
 
-unfoldable pub allPlotsHold : List (List ℕ) → Bool
-allPlotsHold [] = true
-allPlotsHold (r ∷ rs) = plotHolds (recordRow r) (recordColumn r) && allPlotsHold rs
-
-unfoldable pub sheetPlotsHold : (List ℕ → List ℕ → List ℕ) → List (List ℕ) → List ℕ → Bool
-sheetPlotsHold f [] bs = true
-sheetPlotsHold f (e ∷ es) bs = allPlotsHold (pieces 16 (count e) (f e (take (16 * count e) bs))) && sheetPlotsHold f es (drop (16 * count e) bs)
+unfoldable pub plotKept : List ℕ → List ℕ → Bool
+plotKept e r = plotHolds (recordRow r) (recordColumn r)
 
 abbrev pub plotsHold : (List ℕ → List ℕ → List ℕ) → List ℕ → Bool
-plotsHold f book = sheetPlotsHold f (contents book) (bodies book)
+plotsHold f book = everySheet plotKept f (contents book) (bodies book)
 
 -- ---- today's rule of a record is that of past seasons and the rule of plots
 
@@ -109,18 +104,19 @@ middle-two true true b q = refl
 middle-two true false b q = sym (and-comm b false)
 middle-two false p b q = refl
 
-past-record : (most : ℕ) (e r : List ℕ) → replicates e ≡ most → recordHolds e r ≡ (pastRecordHolds most e r && plotHolds (recordRow r) (recordColumn r))
-unfolding recordHolds pastRecordHolds
-past-record most e r h =
+past-record : (rule : PastRule) (e r : List ℕ) → replicates e ≡ rule .most e → recordHolds e r ≡ (pastRecordHolds rule e r && plotKept e r)
+unfolding recordHolds pastRecordHolds plotKept
+past-record rule e r h =
     rw h
-    (last-two (eqb (recordTrial r) (trial e) && leb 1 (recordEntry r) && leb 1 (recordReplicate r) && leb (recordReplicate r) most) (plotHolds (recordRow r) (recordColumn r)) (eqb (number 13 3 r) 0))
+    (last-two (eqb (recordTrial r) (trial e) && leb 1 (recordEntry r) && leb 1 (recordReplicate r) && leb (recordReplicate r) (rule .most e)) (plotHolds (recordRow r) (recordColumn r)) (eqb (number 13 3 r) 0))
 
-past-records : (most : ℕ) (e : List ℕ) (rs : List (List ℕ)) → replicates e ≡ most → allRecordsHold e rs ≡ (pastAllRecordsHold most e rs && allPlotsHold rs)
-unfolding allRecordsHold pastAllRecordsHold allPlotsHold
-past-records most e [] h = refl
-past-records most e (r ∷ rs) h =
-    rw (past-record most e r h, past-records most e rs h)
-    (middle-two (pastRecordHolds most e r) (plotHolds (recordRow r) (recordColumn r)) (pastAllRecordsHold most e rs) (allPlotsHold rs))
+past-records : (rule : PastRule) (e : List ℕ) (rs : List (List ℕ)) → replicates e ≡ rule .most e
+    → allRecordsHold e rs ≡ (everyRecord (pastRecordHolds rule e) rs && everyRecord (plotKept e) rs)
+unfolding allRecordsHold everyRecord
+past-records rule e [] h = refl
+past-records rule e (r ∷ rs) h =
+    rw (past-record rule e r h, past-records rule e rs h)
+    (middle-two (pastRecordHolds rule e r) (plotKept e r) (everyRecord (pastRecordHolds rule e) rs) (everyRecord (plotKept e) rs))
 
 -- ---- books that a rule of past seasons and today's read alike, but for the plots
 
@@ -148,20 +144,18 @@ past-entries rule previous nothing = refl
 past-entries rule previous (both {e = e} alike every) = rw (alike .holds previous, past-entries rule (trial e) every)
 
 past-sheets : (rule : PastRule) (f : List ℕ → List ℕ → List ℕ) (bs : List ℕ) {es : List (List ℕ)} → Every (Alike rule) es
-    → sheetsHold f es bs ≡ (pastSheetsHold rule f es bs && sheetPlotsHold f es bs)
-unfolding sheetsHold pastSheetsHold sheetPlotsHold
+    → sheetsHold f es bs ≡ (everySheet (pastRecordHolds rule) f es bs && everySheet plotKept f es bs)
+unfolding sheetsHold everySheet
 past-sheets rule f bs nothing = refl
 past-sheets rule f bs (both {e = e} {es = es} alike every) =
-    rw (past-records (rule .most e) e (pieces 16 (count e) (f e (take (16 * count e) bs))) (alike .most), past-sheets rule f (drop (16 * count e) bs) every)
-    (middle-two
-    (pastAllRecordsHold (rule .most e) e (pieces 16 (count e) (f e (take (16 * count e) bs))))
-    (allPlotsHold (pieces 16 (count e) (f e (take (16 * count e) bs))))
-    (pastSheetsHold rule f es (drop (16 * count e) bs))
-    (sheetPlotsHold f es (drop (16 * count e) bs)))
+    let rs : List (List ℕ) = pieces 16 (count e) (f e (take (16 * count e) bs)) in
+    let rest : List ℕ = drop (16 * count e) bs in
+    rw (past-records rule e rs (alike .most), past-sheets rule f rest every)
+    (middle-two (everyRecord (pastRecordHolds rule e) rs) (everyRecord (plotKept e) rs) (everySheet (pastRecordHolds rule) f es rest) (everySheet plotKept f es rest))
 
 past-checks : (rule : PastRule) (cs : List Check) (book out : List ℕ) → Every (Alike rule) (contents book) → (mark : ℕ) (f : List ℕ → List ℕ → List ℕ)
     → bookChecks cs mark f book out
-    ≡ cs ++ (pastFormChecks rule mark book out ++ (check 11 (pastSheetsHold rule f (contents book) (bodies book) && plotsHold f book) ∷ []))
+    ≡ cs ++ (pastFormChecks rule mark book out ++ (check 11 (everySheet (pastRecordHolds rule) f (contents book) (bodies book) && plotsHold f book) ∷ []))
 unfolding formChecks recordsCheck bookChecks pastFormChecks
 past-checks rule cs book out every mark f = rw (past-entries rule 0 every, past-sheets rule f (bodies book) every)
 
@@ -228,7 +222,7 @@ module _ {rule : PastRule} (season : Season rule) (cs : List Check) (mark : ℕ)
   past-judged p =
       let every : Every (Alike rule) (contents book) = past-alike season mark book out (pass-left (pastFormChecks rule mark book out) _ (pass-right cs _ p)) in
       ap (λ (ks : List Check). judged ks o) (past-checks rule cs book out every mark f)
-      ∙ last-check 11 cs (pastFormChecks rule mark book out) (pastSheetsHold rule f (contents book) (bodies book)) (plotsHold f book) o p
+      ∙ last-check 11 cs (pastFormChecks rule mark book out) (everySheet (pastRecordHolds rule) f (contents book) (bodies book)) (plotsHold f book) o p
 
 module _ {rule : PastRule} (season : Season rule) (key : List ℕ) (way : ℕ) (book out : List ℕ) {n : ℕ} {bs : List ℕ} where
   pub past-accepted-encrypts : pastEncryptBookBy rule (keyAndWay key way) (encrypt key) book out ≡ accepted n bs
