@@ -3,6 +3,7 @@ ghost use Rattle.planbook_spec.specs.Outcome.{Answers};
 ghost use Rattle.planbook_spec.specs.Checks.{constantsCall, expandKeyCall, encryptBlockCall, decryptBlockCall};
 ghost use Rattle.planbook_spec.specs.Book.{encryptBookCall, decryptBookCall};
 ghost use Rattle.planbook_spec.specs.Note.{cryptNoteCall};
+ghost use Rattle.planbook_spec.specs.Page.{pageCall};
 use tasks::Task;
 
 #[no_mangle]
@@ -59,4 +60,11 @@ pub extern "C" fn planbook_crypt_note(
     ensures { λ r. ⌜ Answers (cryptNoteCall (now (key .entry)) way (now (counter .entry)) (now (note .entry)) (now (out .entry))) (now (out .entry)) r (now (out .exit)) ⌝ }
 {
     answer::number(calls::keyed_call(Task::CryptNote, key, way, counter, note, out))
+}
+
+#[no_mangle]
+pub extern "C" fn planbook_page(book: &[u8], sheet: u64, out: &mut [u8]) -> u64
+    ensures { λ r. ⌜ Answers (pageCall (now (book .entry)) sheet (now (out .entry))) (now (out .entry)) r (now (out .exit)) ⌝ }
+{
+    answer::number(planting_page::page(book, sheet, out))
 }

@@ -4,6 +4,8 @@ pub mod BookLaws
 pub mod BookCipher
 pub mod Demands
 pub mod NoteLaws
+pub mod SheetLaws
+pub mod PageLaws
 pub mod OutputLengths
 pub mod PastSeasons
 pub mod Received

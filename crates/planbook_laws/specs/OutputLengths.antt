@@ -15,9 +15,11 @@ use Rattle.planbook_spec.specs.Checks.{keyAndWay, constantCount, expandedCount,
 use Rattle.planbook_laws.specs.CheckLaws.{key-permitted, output-size, block-size}
 use Rattle.planbook_spec.specs.Book.{encryptBookCall, decryptBookCall}
 use Rattle.planbook_spec.specs.Note.{cryptNoteBy, cryptNoteCall}
+use Rattle.planbook_spec.specs.Page.{pageChecks, page, lineCount, pageCall}
 use Rattle.planbook_laws.specs.BookCipher.{encrypted-length, decrypted-length}
 use Rattle.planbook_laws.specs.Demands.{cipher, encryptBook-key, decryptBook-key}
 use Rattle.planbook_laws.specs.NoteLaws.{length-ctr, note-passed}
+use Rattle.planbook_laws.specs.PageLaws.{length-page, page-passed}
 
 -- The bytes of n words.
 words-length : (ws : List ℕ) (n : ℕ) → length ws ≡ n → length (bytesOf ws) ≡ 4 * n
@@ -67,3 +69,13 @@ unfolding cryptNoteCall cryptNoteBy
 cryptNote-length key way counter note out a =
     let p = passed _ _ _ a in
     ap length (sym (p .sameBytes)) ∙ length-ctr (encrypt key) counter note ∙ sym (note-passed (keyAndWay key way) counter note out (p .checks) .room)
+
+-- A page has 32 bytes for each line that the count tells.
+pub page-length : (book : List ℕ) (i : ℕ) (out : List ℕ) {n : ℕ} {bs : List ℕ} → pageCall book i out ≡ accepted n bs → (length bs ≡ length out) × (length bs ≡ 32 * n)
+unfolding pageCall
+page-length book i out a =
+    let p = passed (pageChecks book i out) (lineCount i book) (page i book) a in
+    let l : length (page i book) ≡ 32 * lineCount i book = length-page i book in (
+      ap length (sym (p .sameBytes)) ∙ l ∙ sym (page-passed book i out (p .checks) .room),
+      ap length (sym (p .sameBytes)) ∙ l ∙ ap (λ (k : ℕ). 32 * k) (p .sameCount),
+    )

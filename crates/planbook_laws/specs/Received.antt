@@ -16,16 +16,18 @@ use Rattle.planbook_spec.specs.Outcome.{Outcome, refused, accepted, answer, aft
 use Rattle.planbook_spec.specs.OutcomeLaws.{AllPass, none, more, answers-equal, Accepted, accepting}
 use Rattle.planbook_spec.specs.Checks.{keyCheck, wayCheck, blockCheck, outputCheck, keyAndWay, constantCount, expandedCount, constantsCall, expandKeyCall, blockChecks, encryptBlockCall, decryptBlockCall}
 use Rattle.planbook_laws.specs.CheckLaws.{Way}
-use Rattle.planbook_spec.specs.Book.{formChecks, recordsCheck, asItIs, decryptBody, bookChecks, encryptBookBy, decryptBookBy, encryptBookCall, decryptBookCall}
+use Rattle.planbook_spec.specs.Book.{sheetBody, formChecks, recordsCheck, asItIs, decryptBody, bookChecks, encryptBookBy, decryptBookBy, encryptBookCall, decryptBookCall}
 use Rattle.planbook_spec.specs.Note.{noteCheck, noteChecks, cryptNoteBy, cryptNoteCall}
+use Rattle.planbook_spec.specs.Page.{sheetCheck, pageChecks, pageCall}
 use Rattle.planbook_laws.specs.BookLaws.{formed-count}
 use Rattle.planbook_laws.specs.BookCipher.{book-formed}
 use Rattle.planbook_laws.specs.Demands.{demand2-decrypts, demand2-encrypts, demand2-block-decrypts, demand2-block-encrypts, EncryptedAlike, demand3}
 use Rattle.planbook_laws.specs.NoteLaws.{note-passed, note-comes-back, notes-alike}
+use Rattle.planbook_laws.specs.PageLaws.{page-passed, line-count, pages-alike}
 
 -- The highest number of a check.
 abbrev pub lastCheck : ℕ
-lastCheck = 12
+lastCheck = 13
 
 -- An outcome whose number can be read: a check is one of those that there are, and a count is below 2 ^ 32.
 pub data Readable : Outcome → Type 0 where
@@ -119,6 +121,10 @@ module _ (key : List ℕ) (way : ℕ) where
   unfolding cryptNoteCall cryptNoteBy noteChecks keyCheck wayCheck blockCheck outputCheck noteCheck numbered
   readable-cryptNote counter note out = readable _ _ _ refl (λ p. let s : length note ≤ 16384 = note-passed (keyAndWay key way) counter note out p .short in omega arith)
 
+pub readable-page : (book : List ℕ) (i : ℕ) (out : List ℕ) → Readable (pageCall book i out)
+unfolding pageCall pageChecks formChecks recordsCheck sheetCheck outputCheck numbered
+readable-page book i out = readable (pageChecks book i out) _ _ refl (λ p. line-count (page-passed book i out p))
+
 -- ---- demand 2: where the first number is below 2 ^ 32, the other call gives the number and the bytes back
 
 module _ (key : List ℕ) (bytes : Below 256 key) (way way′ : ℕ) (permitted : Way way′) (src out out′ : List ℕ) (below : Below 256 src) {r r′ : ℕ} {exit exit′ : List ℕ} (small : r < 2 ^ 32) where
@@ -166,3 +172,14 @@ module _ (key : List ℕ) (way way′ : ℕ) (counter : List ℕ) {r r′ : ℕ}
       (notes-alike key way way′ counter a b out out′
       (accepted-outcome (accepts (readable-cryptNote key way counter a out) pa ha))
       (accepted-outcome (accepts (readable-cryptNote key way′ counter b out′) pb hb)))
+
+-- ---- pages: those of two sheets are equal exactly where their bodies are
+
+pub pages-alike-received : (book book′ : List ℕ) (i i′ : ℕ) (out out′ : List ℕ) → Below 256 book → Below 256 book′ → {r r′ : ℕ} {x y : List ℕ}
+    → Answers (pageCall book i out) out r x → r < 2 ^ 32
+    → Answers (pageCall book′ i′ out′) out′ r′ y → r′ < 2 ^ 32 → (x ≡ y) ↔ (sheetBody i book ≡ sheetBody i′ book′)
+pages-alike-received book book′ i i′ out out′ below below′ pa ha pb hb =
+    rw (pa .output, pb .output)
+    (pages-alike book book′ i i′ out out′ below below′
+    (accepted-outcome (accepts (readable-page book i out) pa ha))
+    (accepted-outcome (accepts (readable-page book′ i′ out′) pb hb)))

@@ -27,7 +27,7 @@ first-block n b = sized-take 16 (16 * n) b (omega arith)
 other-blocks : (n : ℕ) {bs : List ℕ} → Bytes (16 * suc n) bs → Bytes (16 * n) (drop 16 bs)
 other-blocks n b = sized-drop 16 (16 * n) b (omega arith)
 
-empty : (bs : List ℕ) → Bytes (16 * zero) bs → [] ≡ bs
+pub empty : (bs : List ℕ) → Bytes (16 * zero) bs → [] ≡ bs
 empty [] b = refl
 empty (x ∷ bs) b = let s : suc (length bs) ≡ 0 = b .size in absurd (omega arith)
 

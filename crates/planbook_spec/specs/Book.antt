@@ -101,6 +101,13 @@ unfoldable pub recordCount : List (List ℕ) → ℕ
 recordCount [] = 0
 recordCount (e ∷ es) = count e + recordCount es
 
+-- Sheet i, counted from 0: its entry, and its body, in front of which stand the records of the i sheets before it.
+abbrev pub sheetEntry : ℕ → List ℕ → List ℕ
+sheetEntry i book = take 24 (drop (24 * i) (drop 4 book))
+
+abbrev pub sheetBody : ℕ → List ℕ → List ℕ
+sheetBody i book = take (16 * count (sheetEntry i book)) (drop (16 * recordCount (pieces 24 i (drop 4 book))) (bodies book))
+
 -- Checks 5 to 10, of a book's form; mark is the first byte that the call permits.
 unfoldable pub formChecks : ℕ → List ℕ → List Check
 formChecks mark book =

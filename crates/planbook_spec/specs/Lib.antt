@@ -5,4 +5,6 @@ pub mod Checks
 pub mod Book
 pub mod Note
 pub mod NoteCases
+pub mod Page
+pub mod PageCases
 pub mod OutcomeLaws

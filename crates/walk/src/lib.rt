@@ -2,8 +2,9 @@
 ghost use mathlib.Core.Path.{_≡_};
 ghost use Prim.Native.Nat.{_+_, _*_, _≤_};
 ghost use lib.ListN.{length};
-ghost use Rattle.planbook_spec.specs.Book.{count};
-ghost use Rattle.walk.specs.Walk.{entryAt};
+ghost use Rattle.planbook_spec.specs.Book.{count, sheetCount};
+ghost use Rattle.planbook_laws.specs.BookLaws.{Formed};
+ghost use Rattle.walk.specs.Walk.{entryAt, bodyStart};
 use entries::entry;
 
 // Where the body ends that stands at `at`, and whose entry stands at `from`.
@@ -12,4 +13,18 @@ pub fn body_end(book: &[u8], from: usize, at: usize) -> usize
     ensures { λ r. ⌜ r ≡ at + 16 * count (entryAt (now (book .entry)) from) ⌝ }
 {
     at + 16 * entry::half(book, from + 4)
+}
+
+// Where the body of a sheet begins, which may be the end of the last one.
+pub fn body_start(book: &[u8], sheet: usize) -> usize
+    requires { ⌜ Formed (now book) × (sheet ≤ sheetCount (now book)) ⌝ }
+    ensures { λ r. ⌜ r ≡ bodyStart sheet (now (book .entry)) ⌝ }
+{
+    let mut at = 4 + 24 * entry::half(book, 2);
+    let mut i = 0;
+    while i < sheet {
+        at = body_end(book, 4 + 24 * i, at);
+        i += 1;
+    }
+    at
 }

@@ -1,0 +1,17 @@
+-- `planting_page::text::digit` meets its contract.
+use borrow.Author.Needs.{needs}
+use borrow.Author.Tests.{eq-eqb, ne-eqb}
+use Rattle.planting_page.specs.Digits.{shownDigit}
+use Rattle.planting_page.proofs.text.digit.Statement.{statement}
+use Rattle.planting_page.proofs.text.digit.Tie as tie
+
+returns : tie.Need-returns
+unfolding shownDigit
+returns c = rw (eq-eqb _ _ (c .if1 .taken))
+
+returns-2 : tie.Need-returns-2
+unfolding shownDigit
+returns-2 c = rw (ne-eqb _ _ (c .if1 .left))
+
+pub digit-spec : {M : Type 1} → statement M
+digit-spec = tie.close (tie.spec returns (λ c. search needs) (λ c. search needs) returns-2)

@@ -1,0 +1,42 @@
+// The call for a sheet's planting page: the checks of a whole clear book, then those of the sheet and of the output, and then its text.
+pub mod text;
+
+ghost use mathlib.Core.Path.{_≡_};
+ghost use mathlib.Core.List.{[], _∷_};
+ghost use Prim.Native.Nat.{_*_, _<_};
+ghost use Rattle.planbook_spec.specs.Outcome.{accepted, judged};
+ghost use Rattle.planbook_spec.specs.Checks.{outputCheck};
+ghost use Rattle.planbook_spec.specs.Book.{sheetCount};
+ghost use Rattle.planbook_spec.specs.Page.{page as Page·page, lineCount, pageCall};
+ghost use Rattle.planbook_laws.specs.BookLaws.{Formed};
+ghost use Rattle.answer.specs.Answer.{Given};
+use answer::Answer;
+use entries::entry;
+
+// Check 4, and then the page of a sheet that there is. The count is that of the lines.
+fn sheet_page(book: &[u8], sheet: usize, out: &mut [u8]) -> Answer
+    requires { ⌜ Formed (now book) × (sheet < sheetCount (now book)) ⌝ }
+    ensures { λ r. ⌜ Given (judged (outputCheck (32 * lineCount sheet (now (book .entry))) (now (out .entry)) ∷ []) (accepted (lineCount sheet (now (book .entry))) (Page·page sheet (now (book .entry))))) (now (out .entry)) r (now (out .exit)) ⌝ }
+{
+    let at = walk::body_start(book, sheet);
+    let end = walk::body_end(book, 4 + 24 * sheet, at);
+    let count = (end - at) / 16;
+    if out.len() != 32 * (count + 1) {
+        return Answer::Refused(4);
+    }
+    text::write_page(&book[at..end], count, out);
+    Answer::Accepted(count as u64 + 1)
+}
+
+pub fn page(book: &[u8], sheet: u64, out: &mut [u8]) -> Answer
+    ensures { λ r. ⌜ Given (pageCall (now (book .entry)) sheet (now (out .entry))) (now (out .entry)) r (now (out .exit)) ⌝ }
+{
+    let checked = book::check_book(false, &[], &[], &[], book);
+    let Answer::Accepted(records) = checked else {
+        return checked;
+    };
+    if entry::half(book, 2) as u64 <= sheet {
+        return Answer::Refused(13);
+    }
+    sheet_page(book, sheet as usize, out)
+}
