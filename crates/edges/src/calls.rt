@@ -6,6 +6,7 @@ use planbook::planbook_decrypt_book;
 use planbook::planbook_encrypt_block;
 use planbook::planbook_encrypt_book;
 use planbook::planbook_expand_key;
+use planbook::planbook_page;
 use samples::outputs::begin;
 use samples::outputs::end;
 use samples::outputs::fill;
@@ -20,6 +21,7 @@ fn call(
     length: u64,
     way: u64,
     counter: &[u8],
+    sheet: u64,
     input: &[u8],
     output: &mut [u8],
 ) -> u64 {
@@ -30,6 +32,7 @@ fn call(
         4 => planbook_decrypt_block(key, way, input, output),
         6 => planbook_decrypt_book(key, way, input, output),
         23 => planbook_crypt_note(key, way, counter, input, output),
+        25 => planbook_page(input, sheet, output),
         _ => planbook_encrypt_book(key, way, input, output),
     }
 }
@@ -51,15 +54,19 @@ fn report(
         state.key as u64,
         state.way as u64,
         counter,
+        state.sheet as u64,
         input,
         output,
     );
     end(command.number, answer, output);
 }
 
-// Commands 1 to 7 and 23.
+// Commands 1 to 7, 23 and 25.
 fn is_call(number: usize) -> bool {
     if number == 23 {
+        return true;
+    }
+    if number == 25 {
         return true;
     }
     if number == 0 {

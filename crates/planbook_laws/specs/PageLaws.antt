@@ -22,7 +22,7 @@ use Rattle.planbook_laws.specs.Undoing.{empty}
 use Rattle.planbook_laws.specs.CheckLaws.{output-size}
 use Rattle.planbook_laws.specs.BookLaws.{Formed, formed}
 use Rattle.planbook_laws.specs.SheetLaws.{body-room, SheetKept, sheet-kept}
-use Rattle.planbook_spec.specs.Page.{decimal, spaces, rightAligned, numberField, joined, heading, line, lines, page, lineCount, sheetCheck, pageChecks, pageCall}
+use Rattle.planbook_spec.specs.Page.{decimal, spaces, rightAligned, numberField, heading, line, lines, page, lineCount, sheetCheck, pageChecks, pageCall}
 
 -- ---- lengths
 

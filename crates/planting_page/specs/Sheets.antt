@@ -1,7 +1,7 @@
 -- The sheet that a page shows, where code finds it in the book, and the call's answer by each way out.
 use Prim.Native.Nat.{ℕ, _+_, _-_, _*_, _/_, _≤_, _<_}
 use mathlib.Core.List.{List, [], _∷_, _++_}
-use mathlib.Core.Path.{_≡_, refl, sym, ap, _∙_}
+use mathlib.Core.Path.{_≡_, sym, ap, _∙_}
 use native.Mathlib.Omega.{arith}
 use borrow.Author.Tests.{eq-eqb, ne-eqb}
 use lib.ListN.{length, take, drop}
@@ -9,7 +9,7 @@ use lib.Seq.{drop-drop}
 use Rattle.planbook_spec.specs.Outcome.{accepted, judged}
 use Rattle.planbook_spec.specs.OutcomeLaws.{none, judged-pass, judged-true, judged-false}
 use Rattle.planbook_spec.specs.Checks.{outputCheck}
-use Rattle.planbook_spec.specs.Book.{pieces, count, sheetCount, contents, bodies, recordCount, sheetEntry, sheetBody}
+use Rattle.planbook_spec.specs.Book.{pieces, count, sheetCount, bodies, recordCount, sheetEntry, sheetBody}
 use Rattle.planbook_spec.specs.Page.{heading, lines, page, lineCount}
 use Rattle.planbook_laws.specs.BookLaws.{Formed}
 use Rattle.planbook_laws.specs.SheetLaws.{body-room, length-sheetBody}

@@ -1,7 +1,6 @@
 // The call for a sheet's planting page: the checks of a whole clear book, then those of the sheet and of the output, and then its text.
 pub mod text;
 
-ghost use mathlib.Core.Path.{_≡_};
 ghost use mathlib.Core.List.{[], _∷_};
 ghost use Prim.Native.Nat.{_*_, _<_};
 ghost use Rattle.planbook_spec.specs.Outcome.{accepted, judged};

@@ -71,7 +71,7 @@ fn tell(command: Command, script: &[u8], state: State, book: &[u8], kept: &[u8],
             let b = within(state.length, book);
             say_words(&book[..b]);
         }
-        25 => say_unknown(script, command.from, command.end),
+        27 => say_unknown(script, command.from, command.end),
         _ => (),
     }
 }

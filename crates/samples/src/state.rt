@@ -9,6 +9,7 @@ pub struct State {
     pub size: usize,
     pub length: usize,
     pub counter: usize,
+    pub sheet: usize,
     // Where the text of the last 'case' stands in the script.
     pub case: usize,
     pub case_end: usize,
@@ -26,6 +27,7 @@ impl State {
             size: 0,
             length: 0,
             counter: 0,
+            sheet: 0,
             case: 0,
             case_end: 0,
             mark: 0,
@@ -62,6 +64,7 @@ impl State {
             }
             22 => return self.again(),
             24 => self.counter = command.first,
+            26 => self.sheet = command.first,
             _ => (),
         }
         self

@@ -1,6 +1,6 @@
 -- `walk::body_start` meets its contract: the walk has come to sheet i, whose body begins at `at`.
-use Prim.Native.Nat.{_+_, _-_, _*_, _≤_, _<_}
-use mathlib.Core.Path.{_≡_, ap}
+use Prim.Native.Nat.{_+_, _-_, _*_, _≤_}
+use mathlib.Core.Path.{_≡_}
 use native.Mathlib.Omega.{arith}
 use borrow.Author.Needs.{needs}
 use Rattle.planbook_spec.specs.Book.{sheetCount}

@@ -1,6 +1,5 @@
 -- `planting_page::text::write_number` meets its contract: what stands from i on is the end of the field.
-use Prim.Native.Nat.{suc, _-_}
-use mathlib.Core.Path.{_≡_, sym, _∙_}
+use mathlib.Core.Path.{_≡_}
 use native.Mathlib.Omega.{arith}
 use borrow.Author.Needs.{needs}
 use lib.ListN.{length, length-set}

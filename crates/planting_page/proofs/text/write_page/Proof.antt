@@ -1,10 +1,9 @@
 -- `planting_page::text::write_page` meets its contract: `left` records are to come, the next at `at`, and its line at `to`.
-use Prim.Native.Nat.{_+_, _-_, _*_, _≤_}
+use Prim.Native.Nat.{_+_, _≤_}
 use mathlib.Core.Path.{refl, sym, _∙_}
 use native.Mathlib.Omega.{arith}
 use borrow.Author.Needs.{needs}
-use lib.ListN.{length, take, drop}
-use Rattle.planbook_spec.specs.Page.{line}
+use lib.ListN.{length}
 use Rattle.entries.specs.Parts.{part, part-length}
 use Rattle.planting_page.specs.Lines.{Lined, lined-start, line-room, lined-next, lined-end}
 use Rattle.planting_page.proofs.text.write_page.Statement.{statement}
