@@ -26,23 +26,22 @@ returns c =
 half-requires : tie.Need-half-requires
 half-requires c κs = omega (arith, book-formed _ (answered c) .size)
 
+abbrev known : tie.After-half → tie.After-known-told
+known h = h .before
+
 returns-2 : tie.Need-returns-2
-returns-2 c =
-    let k : tie.After-known-told = c .before .before in
-    no-sheet _ (answered k) _ _ (rw (c .before .half .ensures) at (c .if1 .taken))
+returns-2 c = no-sheet _ (answered (known (c .before))) _ _ (rw (c .before .half .ensures) at (c .if1 .taken))
 
 sheet-page-requires : tie.Need-sheet-page-requires
 sheet-page-requires c κs =
     let l : tie.Else1 = c .before in
-    let k : tie.After-known-told = l .before .before in
-    (book-formed _ (answered k), rw (l .before .half .ensures) at (l .if1 .left))
+    (book-formed _ (answered (known (l .before))), rw (l .before .half .ensures) at (l .if1 .left))
 
 returns-3 : tie.Need-returns-3
 returns-3 c =
     let p : tie.After-sheet-page = c .before .before in
     let l : tie.Else1 = p .before .before in
-    let k : tie.After-known-told = l .before .before in
-    a-sheet _ (answered k) _ _ (rw (l .before .half .ensures) at (l .if1 .left)) (p .sheet-page .ensures)
+    a-sheet _ (answered (known (l .before))) _ _ (rw (l .before .half .ensures) at (l .if1 .left)) (p .sheet-page .ensures)
 
 pub page-spec : {M : Type 1} → statement M
 page-spec =
