@@ -9,9 +9,9 @@ use Rattle.clefia_spec.specs.Words.{fromDigits, toDigits}
 use Rattle.clefia_spec.specs.Cases.{Case, _gives_, AllHold, allSame, computed}
 use Rattle.planbook_spec.specs.Outcome.{answer, after, judged}
 use Rattle.planbook_spec.specs.Checks.{outputCheck}
-use Rattle.planbook_spec.specs.Book.{number, pieces, replicates, entryHolds, entriesHold, plotHolds, recordHolds, allRecordsHold, recordCount, formChecks, sheetsHold, recordsCheck}
+use Rattle.planbook_spec.specs.Book.{number, pieces, replicates, entryHolds, entriesHold, plotHolds, recordHolds, allRecordsHold, recordCount, sheetEntry, sheetBody, formChecks, sheetsHold, recordsCheck}
 use Rattle.planbook_spec.specs.Page.{decimal, spaces, rightAligned, numberField, heading, line, lines, page, sheetCheck, pageChecks, pageCall}
-use Rattle.planbook_spec.specs.AnswerCases.{rising, small, large, plot}
+use Rattle.planbook_spec.specs.AnswerCases.{rising, entryOf, small, large, plot}
 
 -- The book of the example: one record, of trial 41, entry 7, replicate 2, row 12 and column 3.
 abbrev pub example : List ℕ
@@ -20,6 +20,10 @@ example = sets small 37 (plot 12 3)
 -- The greatest of each number: trial and entry 4294967295, replicate 8, row and column 999.
 abbrev pub greatest : List ℕ
 greatest = sets (sets (set small 10 8) 4 (replicate 4 255)) 28 (replicate 8 255 ++ (8 ∷ plot 999 999))
+
+-- The contents of three sheets, of two records, one and one, and bodies whose bytes all differ.
+abbrev pub three : List ℕ
+three = 1 ∷ 0 ∷ 0 ∷ 3 ∷ entryOf 41 2 0x10 ++ entryOf 42 1 0x20 ++ entryOf 43 1 0x30 ++ rising 64 0x80
 
 -- The call's answer, and its output where m bytes are lent.
 abbrev pub paged : List ℕ → ℕ → ℕ → ℕ
@@ -65,11 +69,18 @@ pageCases =
     -- two sheets: the records of the first in their order; one in reserve
     ∷ (shown large 0 96 gives 3 ∷ headingBytes ++ exampleBytes ++ secondBytes)
     ∷ (shown large 1 64 gives 2 ∷ headingBytes ++ reserveBytes)
+    -- the entry of a sheet, and its body
+    ∷ (sheetEntry 0 three ++ sheetEntry 2 three gives entryOf 41 2 0x10 ++ entryOf 43 1 0x30)
+    ∷ (sheetBody 0 three gives rising 32 0x80)
+    ∷ (sheetBody 1 three gives rising 16 0xa0)
+    ∷ (sheetBody 2 three gives rising 16 0xb0)
     -- digits: 0; 9 and 10; zeros within and at the end; the greatest number of nine digits, and the least of ten
     ∷ (decimal 10 0 ++ (0 ∷ decimal 10 9) ++ (0 ∷ decimal 10 10) ++ (0 ∷ decimal 3 100) ++ (0 ∷ decimal 3 101)
     gives 0x30 ∷ 0 ∷ 0x39 ∷ 0 ∷ 0x31 ∷ 0x30 ∷ 0 ∷ 0x31 ∷ 0x30 ∷ 0x30 ∷ 0 ∷ 0x31 ∷ 0x30 ∷ 0x31 ∷ [])
     ∷ (decimal 10 999999999 gives replicate 9 0x39)
     ∷ (decimal 10 1000000000 gives 0x31 ∷ replicate 9 0x30)
+    -- of a number that does not fit, which no record has, the last digits
+    ∷ (decimal 2 345 gives 0x34 ∷ 0x35 ∷ [])
     -- fields of three: of one digit, of two and of three; and one of a single character
     ∷ (numberField 3 0 ++ numberField 3 9 ++ numberField 3 10 ++ numberField 3 99 ++ numberField 3 100
     gives 0x20 ∷ 0x20 ∷ 0x30 ∷ 0x20 ∷ 0x20 ∷ 0x39 ∷ 0x20 ∷ 0x31 ∷ 0x30 ∷ 0x20 ∷ 0x39 ∷ 0x39 ∷ 0x31 ∷ 0x30 ∷ 0x30 ∷ [])
