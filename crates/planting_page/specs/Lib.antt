@@ -1,4 +1,2 @@
-pub mod Digits
-pub mod Lines
 pub mod Sheets
 pub mod PageCall

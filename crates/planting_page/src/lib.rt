@@ -1,6 +1,4 @@
 // The call for a sheet's planting page: the checks of a whole clear book, then those of the sheet and of the output, and then its text.
-pub mod text;
-
 ghost use mathlib.Core.List.{[], _∷_};
 ghost use Prim.Native.Nat.{_*_, _<_};
 ghost use Rattle.planbook_spec.specs.Outcome.{accepted, judged};
@@ -23,7 +21,7 @@ fn sheet_page(book: &[u8], sheet: usize, out: &mut [u8]) -> Answer
     if out.len() != 32 * (count + 1) {
         return Answer::Refused(4);
     }
-    text::write_page(&book[at..end], count, out);
+    page_text::write_page(&book[at..end], count, out);
     Answer::Accepted(count as u64 + 1)
 }
 

@@ -1,11 +1,11 @@
--- `planting_page::text::write_number` meets its contract: what stands from i on is the end of the field.
+-- `page_text::write_number` meets its contract: what stands from i on is the end of the field.
 use mathlib.Core.Path.{_≡_}
 use native.Mathlib.Omega.{arith}
 use borrow.Author.Needs.{needs}
 use lib.ListN.{length, length-set}
-use Rattle.planting_page.specs.Digits.{Written, written-start, written-next, written-end}
-use Rattle.planting_page.proofs.text.write_number.Statement.{statement}
-use Rattle.planting_page.proofs.text.write_number.Tie as tie
+use Rattle.page_text.specs.Digits.{Written, written-start, written-next, written-end}
+use Rattle.page_text.proofs.write_number.Statement.{statement}
+use Rattle.page_text.proofs.write_number.Tie as tie
 
 abbrev Inv-loop : tie.InvT-loop
 Inv-loop out₀ n i₀ rest₀ out i rest = Written (length out₀) n i rest out

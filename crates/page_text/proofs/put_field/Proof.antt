@@ -1,13 +1,13 @@
--- `planting_page::text::put_field` meets its contract.
+-- `page_text::put_field` meets its contract.
 use Prim.Native.Nat.{_+_, _-_}
 use mathlib.Core.Path.{_≡_, refl}
 use borrow.Author.Needs.{needs}
 use lib.ListN.{length, take, drop}
 use Rattle.planbook_spec.specs.Page.{numberField}
 use Rattle.entries.specs.Parts.{part-length}
-use Rattle.planting_page.specs.Digits.{field-put}
-use Rattle.planting_page.proofs.text.put_field.Statement.{statement}
-use Rattle.planting_page.proofs.text.put_field.Tie as tie
+use Rattle.page_text.specs.Digits.{field-put}
+use Rattle.page_text.proofs.put_field.Statement.{statement}
+use Rattle.page_text.proofs.put_field.Tie as tie
 
 returns : tie.Need-returns
 returns c =

@@ -1,12 +1,12 @@
--- `planting_page::text::write_line` meets its contract: one field after the other.
+-- `page_text::write_line` meets its contract: one field after the other.
 use mathlib.Core.Path.{_≡_, _∙_}
 use borrow.Author.Needs.{needs}
 use lib.ListN.{length}
 use Rattle.planbook_spec.specs.Book.{number}
 use Rattle.planbook_spec.specs.Page.{line}
-use Rattle.planting_page.specs.Digits.{line-put}
-use Rattle.planting_page.proofs.text.write_line.Statement.{statement}
-use Rattle.planting_page.proofs.text.write_line.Tie as tie
+use Rattle.page_text.specs.Digits.{line-put}
+use Rattle.page_text.proofs.write_line.Statement.{statement}
+use Rattle.page_text.proofs.write_line.Tie as tie
 
 returns : tie.Need-returns
 unfolding line number

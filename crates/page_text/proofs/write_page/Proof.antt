@@ -1,13 +1,13 @@
--- `planting_page::text::write_page` meets its contract: `left` records are to come, the next at `at`, and its line at `to`.
+-- `page_text::write_page` meets its contract: `left` records are to come, the next at `at`, and its line at `to`.
 use Prim.Native.Nat.{_+_, _≤_}
 use mathlib.Core.Path.{refl, sym, _∙_}
 use native.Mathlib.Omega.{arith}
 use borrow.Author.Needs.{needs}
 use lib.ListN.{length}
 use Rattle.entries.specs.Parts.{part, part-length}
-use Rattle.planting_page.specs.Lines.{Lined, lined-start, line-room, lined-next, lined-end}
-use Rattle.planting_page.proofs.text.write_page.Statement.{statement}
-use Rattle.planting_page.proofs.text.write_page.Tie as tie
+use Rattle.page_text.specs.Lines.{Lined, lined-start, line-room, lined-next, lined-end}
+use Rattle.page_text.proofs.write_page.Statement.{statement}
+use Rattle.page_text.proofs.write_page.Tie as tie
 
 abbrev Inv-loop : tie.InvT-loop
 Inv-loop body count out₀ at₀ to₀ left₀ out at to left = Lined count body out at to left

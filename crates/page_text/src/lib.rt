@@ -5,7 +5,7 @@ ghost use Prim.Native.Nat.{_+_, _*_, _≤_, _<_};
 ghost use lib.ListN.{length, take};
 ghost use Rattle.planbook_spec.specs.Book.{pieces};
 ghost use Rattle.planbook_spec.specs.Page.{numberField, heading, line, lines};
-ghost use Rattle.planting_page.specs.Digits.{shownDigit};
+ghost use Rattle.page_text.specs.Digits.{shownDigit};
 use entries::entry;
 
 // The last digit of a number, or a space where no digit is left.

@@ -1,4 +1,4 @@
--- `planting_page::text::write_heading` meets its contract: what stands before i has been copied.
+-- `page_text::write_heading` meets its contract: what stands before i has been copied.
 use Prim.Native.Nat.{_-_, _≤_}
 use mathlib.Core.Path.{_≡_, refl}
 use native.Mathlib.Omega.{arith}
@@ -6,8 +6,8 @@ use borrow.Author.Needs.{needs}
 use lib.ListN.{length, take, length-set}
 use Rattle.planbook_spec.specs.Page.{spaces, rightAligned, heading}
 use Rattle.rows.specs.Rows.{fill-one}
-use Rattle.planting_page.proofs.text.write_heading.Statement.{statement}
-use Rattle.planting_page.proofs.text.write_heading.Tie as tie
+use Rattle.page_text.proofs.write_heading.Statement.{statement}
+use Rattle.page_text.proofs.write_heading.Tie as tie
 
 abbrev Inv-loop : tie.InvT-loop
 Inv-loop out₀ text i₀ out i = (text ≡ heading) × (i ≤ 32) × (length out ≡ length out₀) × (take i out ≡ take i heading)

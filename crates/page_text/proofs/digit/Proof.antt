@@ -1,9 +1,9 @@
--- `planting_page::text::digit` meets its contract.
+-- `page_text::digit` meets its contract.
 use borrow.Author.Needs.{needs}
 use borrow.Author.Tests.{eq-eqb, ne-eqb}
-use Rattle.planting_page.specs.Digits.{shownDigit}
-use Rattle.planting_page.proofs.text.digit.Statement.{statement}
-use Rattle.planting_page.proofs.text.digit.Tie as tie
+use Rattle.page_text.specs.Digits.{shownDigit}
+use Rattle.page_text.proofs.digit.Statement.{statement}
+use Rattle.page_text.proofs.digit.Tie as tie
 
 returns : tie.Need-returns
 unfolding shownDigit
