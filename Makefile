@@ -23,7 +23,7 @@ COMPLETIONDIR = $(PREFIX)/share/bash-completion/completions
 DEB := target/deb
 DEB_TREE := $(DEB)/planbook-$(VERSION)
 
-.PHONY: help demo test check lib command bench bench-record install uninstall deb clean need-kit need-compiler need-platform need-dpkg
+.PHONY: help demo test check lib command page bench bench-record install uninstall deb clean need-kit need-compiler need-platform need-dpkg
 .DELETE_ON_ERROR:
 
 help:
@@ -31,6 +31,7 @@ help:
 	@echo "make test      prove everything from nothing and run all tests; make check is the same"
 	@echo "make lib       the proved library, $(LIBRARY)"
 	@echo "make command   the command, $(COMMAND)"
+	@echo "make page      the proved program page, target/bin/page: the page of sheet 0 of the book on standard input"
 	@echo "make bench     measure the library beside plain C, into target/bench/ (bench-record: into docs/)"
 	@echo "make install   library, header, command, pkg-config file and manual pages below PREFIX=$(PREFIX)"
 	@echo "make uninstall remove what make install put there, given the same variables"
@@ -49,6 +50,10 @@ check: test
 lib: need-platform $(PLANBOOK_LIB)
 
 command: need-platform need-compiler $(COMMAND)
+
+# rt proves it, and links it to target/bin/page.
+page: need-platform need-kit
+	@rt check page
 
 bench bench-record: need-platform need-compiler $(PLANBOOK_LIB)
 	@echo "Measuring: leave the machine alone meanwhile."

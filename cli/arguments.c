@@ -17,6 +17,7 @@ static const struct option_text options[OPTIONS] = {
     [COUNTER] = {"--counter", "HEX", "the note's counter block, 32 hexadecimal digits; each sealing needs another one"},
     [WAY] = {"--way", "N", "1 byte tables, 2 word tables (default), 3 S-boxes computed; the result is the same"},
     [TRIALS] = {"--trials", "CSV", "the trials' numbers of replicates and start blocks"},
+    [SHEET] = {"--sheet", "N", "the sheet of the page, 0 (default) for the first; show lists the trials in their order"},
     [BITS] = {"--bits", "N", "the length of the new key: 128 (default), 192 or 256"},
     [CSV] = {"--csv", NULL, "give the plan as CSV; a name that ends in .csv does that by itself"},
     [JSON] = {"--json", NULL, "give JSON, for other programs"},

@@ -39,7 +39,7 @@ struct bytes {
 
 /* arguments.c */
 
-enum option { KEY, KEY_HEX, COUNTER, WAY, TRIALS, BITS, CSV, JSON, FORCE, OPTIONS };
+enum option { KEY, KEY_HEX, COUNTER, WAY, TRIALS, SHEET, BITS, CSV, JSON, FORCE, OPTIONS };
 
 #define MAX_WORDS 3
 
@@ -76,6 +76,7 @@ void run_labels(const struct arguments *given);
 void run_find(const struct arguments *given);
 void run_pack(const struct arguments *given);
 void run_unpack(const struct arguments *given);
+void run_page(const struct arguments *given);
 void run_note(const struct arguments *given);
 
 /* messages.c */
@@ -216,8 +217,9 @@ void put_record(uint8_t *at, const struct record *record);
 typedef uint64_t book_call(const uint8_t *key, size_t key_len, uint64_t way, const uint8_t *book, size_t book_len,
                            uint8_t *out, size_t out_len);
 
-/* One call for a book, or for a note; answers its check. Whatever it left on the stack is wiped. */
+/* One call for a book, a page or a note; answers its check. Whatever it left on the stack is wiped. */
 uint32_t call_library(book_call *call, struct bytes key, uint64_t way, struct bytes book, struct bytes out);
+uint32_t call_for_page(struct bytes book, uint64_t sheet, struct bytes out);
 uint32_t call_for_note(struct bytes key, uint64_t way, struct bytes counter, struct bytes note, struct bytes out);
 
 /* The check at which the library refuses a clear or a sealed book, or 0. No key is needed for either. */
@@ -232,6 +234,9 @@ uint32_t check_record(const struct sheet *sheet, const uint8_t *record);
 /* Why a book was refused that should have been a clear one, or a sealed one that was to be opened. */
 void refuse_clear_book(const char *name, struct bytes book, uint32_t check) __attribute__((noreturn));
 void refuse_sealed_book(const char *name, struct bytes book, uint32_t check) __attribute__((noreturn));
+
+/* Why the page of a sheet was refused: because of the clear book, or because it has no such sheet. */
+void refuse_page(const char *name, struct bytes book, uint64_t sheet, uint32_t check) __attribute__((noreturn));
 
 /* Why a note was refused, or its counter block. */
 void refuse_note(const char *name, struct bytes counter, uint32_t check) __attribute__((noreturn));

@@ -1,4 +1,4 @@
-/* The calls of the library. It alone decides whether a key, a way, a book, a counter block or a note is in order. */
+/* The calls of the library. It alone decides whether a key, a way, a book, a sheet, a counter block or a note is in order. */
 #include "cli.h"
 
 #include <string.h>
@@ -10,11 +10,18 @@ uint32_t call_library(book_call *call, struct bytes key, uint64_t way, struct by
     return planbook_check(answer);
 }
 
+uint32_t call_for_page(struct bytes book, uint64_t sheet, struct bytes out)
+{
+    uint64_t answer = planbook_page(book.at, book.len, sheet, out.at, out.len);
+    planbook_wipe_stack(); /* numbers of clear records may lie there */
+    return planbook_check(answer);
+}
+
 uint32_t call_for_note(struct bytes key, uint64_t way, struct bytes counter, struct bytes note, struct bytes out)
 {
     uint64_t answer =
         planbook_crypt_note(key.at, key.len, way, counter.at, counter.len, note.at, note.len, out.at, out.len);
-    planbook_wipe_stack(); /* as above */
+    planbook_wipe_stack(); /* as for a book */
     return planbook_check(answer);
 }
 

@@ -4,7 +4,7 @@ _planbook() {
     local word=${COMP_WORDS[COMP_CWORD]} before=${COMP_WORDS[COMP_CWORD - 1]} verb=${COMP_WORDS[1]} options=
     COMPREPLY=()
     if [ "$COMP_CWORD" -eq 1 ] || { [ "$COMP_CWORD" -eq 2 ] && [ "$verb" = help ]; }; then
-        local verbs='keygen check seal open show labels find pack unpack note'
+        local verbs='keygen check seal open show labels find pack unpack page note'
         [ "$COMP_CWORD" -eq 1 ] && verbs="$verbs help --help --version"
         mapfile -t COMPREPLY < <(compgen -W "$verbs" -- "$word")
         return
@@ -18,12 +18,13 @@ _planbook() {
     labels) options='--json --force' ;;
     find) options='--key --key-hex --json' ;;
     pack | unpack) options='--trials --force' ;;
+    page) options='--sheet --force' ;;
     note) options='--key --key-hex --counter --way --force' ;;
     esac
     case $before in
     --way) mapfile -t COMPREPLY < <(compgen -W '1 2 3' -- "$word") ;;
     --bits) mapfile -t COMPREPLY < <(compgen -W '128 192 256' -- "$word") ;;
-    --counter) ;; # digits: nothing to offer
+    --counter | --sheet) ;; # digits: nothing to offer
     *)
         case $word in
         -*) mapfile -t COMPREPLY < <(compgen -W "$options --help" -- "$word") ;;

@@ -18,6 +18,8 @@ static const struct verb verbs[] = {
      {KEYS, [JSON] = true}, true, 2, 3},
     {"pack", "[PLAN [CLEAR]]", "Makes a clear book from a plan", run_pack, {[TRIALS] = true, [FORCE] = true}, false, 0, 2},
     {"unpack", "[CLEAR [PLAN]]", "Makes the plan from a clear book", run_unpack, {[TRIALS] = true, [FORCE] = true}, false, 0, 2},
+    {"page", "[CLEAR [TEXT]]", "Prints the planting page of one sheet of a clear book", run_page,
+     {[SHEET] = true, [FORCE] = true}, false, 0, 2},
     {"note", "[NOTE [OUT]]", "Seals a note, or opens a sealed one, from its counter block", run_note,
      {KEYS, [COUNTER] = true, [WAY] = true, [FORCE] = true}, true, 0, 2},
 };

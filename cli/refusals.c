@@ -5,6 +5,7 @@
  */
 #include "cli.h"
 
+#include <inttypes.h>
 #include <stdarg.h>
 #include <stdio.h>
 
@@ -34,6 +35,7 @@ static void refuse_kind(const char *name, struct bytes book, uint8_t wanted)
            wanted == PLANBOOK_SEALED ? "sealed" : "clear", book.at[0], book.at[1], wanted);
 }
 
+/* Sheets are counted from 0, as --sheet counts them. */
 static void refuse_entry(const char *name, struct bytes book)
 {
     uint32_t before = 0;
@@ -41,9 +43,9 @@ static void refuse_entry(const char *name, struct bytes book)
         struct sheet sheet = read_entry(book, i);
         unsigned trial = (unsigned)sheet.trial;
         if (sheet.trial == 0)
-            refuse(PLANBOOK_CHECK_ENTRY, "%s, sheet %zu: trial 0, but trials begin at 1", name, i + 1);
+            refuse(PLANBOOK_CHECK_ENTRY, "%s, sheet %zu: trial 0, but trials begin at 1", name, i);
         if (sheet.trial <= before)
-            refuse(PLANBOOK_CHECK_ENTRY, "%s, sheet %zu: trial %u comes after trial %u, but trials must rise", name, i + 1, trial,
+            refuse(PLANBOOK_CHECK_ENTRY, "%s, sheet %zu: trial %u comes after trial %u, but trials must rise", name, i, trial,
                    (unsigned)before);
         if (sheet.count < 1 || sheet.count > PLANBOOK_MAX_SHEET_RECORDS)
             refuse(PLANBOOK_CHECK_ENTRY, "%s: trial %u has %s plots, and a trial has 1 to %s", name, trial, grouped(sheet.count),
@@ -165,4 +167,24 @@ void refuse_sealed_book(const char *name, struct bytes book, uint32_t check)
                "before 2.0 sealed it, with a plot that is no longer permitted",
                name);
     refuse(check, "%s: %s", name, planbook_check_sentence(check));
+}
+
+/* A trial's number may have been given for the sheet's: then which sheet the trial has, as the end of a sentence. */
+static const char *sheet_of_trial(struct bytes book, uint64_t trial)
+{
+    for (size_t i = 0; i < sheet_count(book); i++)
+        if (read_entry(book, i).trial == trial)
+            return fault("; trial %" PRIu64 " is sheet %zu", trial, i);
+    return "";
+}
+
+void refuse_page(const char *name, struct bytes book, uint64_t sheet, uint32_t check)
+{
+    if (check != PLANBOOK_CHECK_SHEET_INDEX)
+        refuse_clear_book(name, book, check);
+    size_t sheets = sheet_count(book);
+    if (sheets == 0)
+        refuse(check, "%s has no sheets", name);
+    refuse(check, "%s has %zu sheet%s, counted from 0: there is no sheet %" PRIu64 "%s", name, sheets, sheets == 1 ? "" : "s",
+           sheet, sheet_of_trial(book, sheet));
 }

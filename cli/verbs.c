@@ -38,6 +38,11 @@ static uint64_t given_way(const struct arguments *given)
     return given->value[WAY] != NULL ? read_number("--way", given->value[WAY]) : PLANBOOK_WAY_WORD_TABLES;
 }
 
+static uint64_t given_sheet(const struct arguments *given)
+{
+    return given->value[SHEET] != NULL ? read_number("--sheet", given->value[SHEET]) : 0;
+}
+
 /* Two hexadecimal digits to a byte. How many bytes there must be is for the library to say. */
 static struct bytes given_counter(const struct arguments *given)
 {
@@ -346,6 +351,19 @@ void run_unpack(const struct arguments *given)
     struct bytes book = clear_book(given->words[0]);
     write_plan(given, book);
     release(&book);
+}
+
+/* A page tells of its sheet what the clear book does, so it is kept like one. It is text, and may go to a terminal. */
+void run_page(const struct arguments *given)
+{
+    uint64_t sheet = given_sheet(given);
+    struct bytes book = read_book(given->words[0]);
+    struct bytes page = new_bytes(planbook_page_length(book.at, book.len, sheet));
+    uint32_t check = call_for_page(book, sheet, page);
+    if (check != PLANBOOK_ACCEPTED)
+        refuse_page(input_title(given->words[0]), book, sheet, check);
+    release(&book);
+    write_one(given->words[1], page, true, given_force(given));
 }
 
 /* Whether the output is the text or the sealed note is not known here, so it is kept like the text. */

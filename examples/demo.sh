@@ -1,6 +1,7 @@
 #!/bin/sh
 # The main job from end to end, on the plan beside this script: a key, a plan sealed in one step, its digest compared, its labels,
-# the plan opened again; a note sealed and opened. Then the steps one by one, by every way and by the C program of the README.
+# the plan opened again; a note sealed and opened. Then the steps one by one, by every way and by the C program of the README, and
+# the planting page of a trial.
 # usage: demo.sh COMMAND PROGRAM FOLDER  (the command planbook, the program seal_book, a folder for the books)
 set -eu
 [ $# -eq 3 ] || { echo "usage: demo.sh COMMAND PROGRAM FOLDER" >&2; exit 2; }
@@ -66,6 +67,9 @@ run pack --trials "$books/trials.csv" "$books/plan.csv" "$books/clear.book"
 run seal --key "$books/season.key" "$books/clear.book" "$books/again.book"
 same "$books/again.book" "$books/sealed.book"
 echo "Sealed again, it is the same book, byte for byte."
+
+say "The planting page of trial 58, to be printed and pinned at its bench. Sheets are counted from 0: trial 41 has sheet 0, trial 58 sheet 1"
+run page --sheet 1 "$books/clear.book"
 
 say "It is sealed by each of the three ways, under an example key that is no secret"
 install -m 600 "$here/example-key-not-secret.hex" "$books/example-key-not-secret.hex"

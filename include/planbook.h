@@ -16,17 +16,20 @@
  * (NIST SP 800-38A), from a counter block that the caller gives, and opened by the same operation. A sealed note is as
  * long as the text, and is the text's bytes and nothing more: where the counter block is kept is the caller's affair.
  *
- * Seven calls do the work: the constants of the key schedule, the expanded ("prepared") key, one block encrypted or
- * decrypted, one book encrypted ("sealed") or decrypted ("opened"), one note sealed or opened. Every call but the first
- * takes a "way", which is the field's implementation strategy: it changes the speed and never the result.
+ * A planting page is one sheet of a clear book as text, to be printed and pinned at a bench: a heading, and a line for
+ * each record.
+ *
+ * Eight calls do the work: the constants of the key schedule, the expanded ("prepared") key, one block encrypted or
+ * decrypted, one book encrypted ("sealed") or decrypted ("opened"), one note sealed or opened, one sheet's page. The calls
+ * that take a key take a "way" too, which is the field's implementation strategy: it changes the speed and never the result.
  *
  * ANSWERS
  *
  * A call answers one 64-bit number: check times 2^32, plus count. Check 0 is acceptance, and the count then says what
- * was done: words written, 1 for a block, the number of records in the book, or that of the note's bytes. Another check
- * is a refusal for the reason with that number, and the count is 0. Each call tries its checks in the order given with
- * it, and the first that fails is the answer. planbook_check, planbook_count and planbook_check_sentence take an answer
- * apart.
+ * was done: words written, 1 for a block, the number of records in the book, that of the note's bytes, or that of the
+ * page's lines. Another check is a refusal for the reason with that number, and the count is 0. Each call tries its checks
+ * in the order given with it, and the first that fails is the answer. planbook_check, planbook_count and
+ * planbook_check_sentence take an answer apart.
  *
  * A refused call has written nothing: the output holds what it held before. This is so for opening too, where the last
  * check looks at the decrypted records. An accepted call has written every byte of the output.
@@ -100,7 +103,7 @@
 extern "C" {
 #endif
 
-#define PLANBOOK_VERSION "2.0.0"
+#define PLANBOOK_VERSION "2.1.0"
 
 /* Not part of the interface: a cast that neither language warns of, and the compiler's attributes. */
 #ifdef __cplusplus
@@ -152,6 +155,10 @@ extern "C" {
 #define PLANBOOK_COUNTER_BYTES PLANBOOK_BLOCK_BYTES
 #define PLANBOOK_COUNTER_PREFIX_BYTES 12
 
+/* Every line of a planting page: 31 characters and a line feed. The longest page has a heading and 1,024 records. */
+#define PLANBOOK_LINE_BYTES 32
+#define PLANBOOK_MAX_PAGE_BYTES 32800
+
 /* The first byte of a book. */
 #define PLANBOOK_CLEAR 1
 #define PLANBOOK_SEALED 2
@@ -178,6 +185,7 @@ extern "C" {
 #define PLANBOOK_CHECK_BODY_LENGTH 10
 #define PLANBOOK_CHECK_RECORD 11
 #define PLANBOOK_CHECK_NOTE_LENGTH 12
+#define PLANBOOK_CHECK_SHEET_INDEX 13
 
 /*
  * The constants of the key schedule for keys of key_length bytes, as words of four bytes, highest first.
@@ -263,13 +271,49 @@ PLANBOOK_MUST_USE uint64_t planbook_crypt_note(const uint8_t *key, size_t key_le
                                                const uint8_t *counter, size_t counter_len,
                                                const uint8_t *note, size_t note_len, uint8_t *out, size_t out_len);
 
+/*
+ * The planting page of one sheet of a clear book, as text: the heading
+ *
+ *        TRIAL      ENTRY R ROW COL
+ *
+ * and a line for each record of the sheet, in the order of the book. Every line has 31 characters and a line feed (0a):
+ * trial in 10, a space, entry in 10, a space, replicate in 1, a space, row in 3, a space, column in 3. Numbers are decimal,
+ * at the right of their place and with spaces in front; row and column of a record in reserve are 0. Nothing ends the text
+ * but the last line feed: there is no zero byte behind it. No key is needed, and so a page is as secret as the clear book.
+ *
+ *   book, book_len  the clear book, as for planbook_encrypt_book; all of it is checked, not the sheet alone
+ *   sheet           which sheet, counted from 0
+ *   out, out_len    the page; out_len is PLANBOOK_LINE_BYTES times (the sheet's records + 1): planbook_page_length tells it
+ *
+ * Checks: of the book 5, 6 (begins with 01 00), 7, 8, 9, 10, 11, then 13 (sheet), and 4 (out_len) last.
+ * Count: the lines of the page, the heading included.
+ */
+PLANBOOK_MUST_USE uint64_t planbook_page(const uint8_t *book, size_t book_len, uint64_t sheet, uint8_t *out, size_t out_len);
+
+/*
+ * The length of the page of a sheet, for out_len of planbook_page, read from the sheet's contents entry; at most
+ * PLANBOOK_MAX_PAGE_BYTES. It is 0 where that entry is not there or its record count is above 1,024: the call then refuses
+ * the book or the sheet, whatever is lent. Nothing else is checked here, and any bytes may be given.
+ */
+static inline size_t planbook_page_length(const uint8_t *book, size_t book_len, uint64_t sheet)
+{
+    size_t entry, records;
+    if (sheet >= PLANBOOK_MAX_SHEETS)
+        return 0;
+    entry = PLANBOOK_HEAD_BYTES + PLANBOOK_ENTRY_BYTES * PLANBOOK_CAST(size_t, sheet);
+    if (book_len < entry + PLANBOOK_ENTRY_BYTES)
+        return 0;
+    records = PLANBOOK_CAST(size_t, book[entry + 4]) * 256 + book[entry + 5];
+    return records > PLANBOOK_MAX_SHEET_RECORDS ? 0 : PLANBOOK_LINE_BYTES * (records + 1);
+}
+
 /* The check of an answer: PLANBOOK_ACCEPTED or PLANBOOK_CHECK_... */
 static inline uint32_t planbook_check(uint64_t answer)
 {
     return PLANBOOK_CAST(uint32_t, answer >> 32);
 }
 
-/* The count of an answer: words, blocks, records or a note's bytes; 0 after a refusal. */
+/* The count of an answer: words, blocks, records, a note's bytes or a page's lines; 0 after a refusal. */
 static inline uint32_t planbook_count(uint64_t answer)
 {
     return PLANBOOK_CAST(uint32_t, answer & 0xffffffffu);
@@ -285,7 +329,7 @@ static inline const char *planbook_check_sentence(uint32_t check)
     case PLANBOOK_CHECK_BLOCK_LENGTH: return "the block, or the counter block of a note, is not 16 bytes long";
     case PLANBOOK_CHECK_OUTPUT_LENGTH: return "the output does not have the length that this call demands";
     case PLANBOOK_CHECK_BOOK_LENGTH: return "the book is shorter than 4 or longer than 65532 bytes";
-    case PLANBOOK_CHECK_BOOK_KIND: return "the book does not begin with 01 00 (clear) for sealing or 02 00 (sealed) for opening";
+    case PLANBOOK_CHECK_BOOK_KIND: return "the book does not begin with 01 00 (clear) for sealing or a page, or 02 00 (sealed) for opening";
     case PLANBOOK_CHECK_SHEETS: return "the book has more than 64 sheets";
     case PLANBOOK_CHECK_CONTENTS_CUT: return "the book ends before its contents do";
     case PLANBOOK_CHECK_ENTRY:
@@ -297,6 +341,7 @@ static inline const char *planbook_check_sentence(uint32_t check)
                "replicates, row and column both from 1 to 999 or both 0 (in reserve), three zero bytes at the end; in opening, "
                "the key may be the wrong one";
     case PLANBOOK_CHECK_NOTE_LENGTH: return "the note is longer than 16384 bytes";
+    case PLANBOOK_CHECK_SHEET_INDEX: return "the book has no sheet of this index; sheets are counted from 0";
     default: return "there is no check of this number";
     }
 }

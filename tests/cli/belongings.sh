@@ -66,6 +66,7 @@ test_completion() {
     [ "$(completes seal --way '' | tr '\n' ' ')" = "1 2 3 " ] || bad "the completion of --way"
     [ "$(completes keygen --bits 1 | tr '\n' ' ')" = "128 192 " ] || bad "the completion of --bits"
     [ -z "$(completes note --counter '')" ] || bad "the completion of --counter, which is no file"
+    [ -z "$(completes page --sheet '')" ] || bad "the completion of --sheet, which is no file"
     [ "$(completes seal --key hex19)" = hex192 ] || bad "the completion of a file name"
     [ "$(completes se)" = seal ] || bad "the completion of a verb"
 }
@@ -96,6 +97,7 @@ test_demo() {
     holds "the demo" make -s demo CLI_DIR="$built" >"$work/demo.txt" 2>&1
     holds "the demo opens its book" grep -q "The opened book is the clear one" "$work/demo.txt"
     holds "the demo goes from a plan to a plan" grep -q "The plan is the same, byte for byte" "$work/demo.txt"
+    holds "the demo prints a page" grep -qx "        58          7 1   4   1" "$work/demo.txt"
     holds "the demo seals a note and opens it" grep -q "The note is the same, byte for byte" "$work/demo.txt"
     holds "the demo compares digests" grep -q "sealed.book: OK" "$work/demo.txt"
     holds "the demo shows the spare plant" grep -qx "        41     8        105         1      reserve" "$work/demo.txt"

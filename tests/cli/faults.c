@@ -15,7 +15,8 @@
  *   no-random     there are no random bytes
  *   count         random bytes are 1, 2, 3 .. and come one at a time
  *   digits        random bytes are 16 times the digit 7, and then as with count
- *   mark          writing leaves 4 KiB of a5 a4 .. 96 on the stack, again and again
+ *   mark          writing leaves 12 KiB of a5 a4 .. 96 on the stack, again and again
+ *   early-mark    so does reading
  *   scan          at the very end, the memory is looked through for the bytes that SCAN names in hexadecimal
  *   early-scan    the same while the file is written
  */
@@ -57,7 +58,7 @@ static int failed(int why)
 
 static __attribute__((noinline)) void leave_mark(void)
 {
-    volatile unsigned char marks[4096];
+    volatile unsigned char marks[12288];
     for (size_t i = 0; i < sizeof marks; i++)
         marks[i] = (unsigned char)(0xa5 - i % 16);
 }
@@ -73,6 +74,16 @@ ssize_t write(int fd, const void *bytes, size_t len)
     if (fd <= 2 || fault("full") == NULL)
         return real(fd, bytes, len);
     return calls++ == 0 ? real(fd, bytes, 1) : failed(ENOSPC);
+}
+
+ssize_t read(int fd, void *bytes, size_t len)
+{
+    static ssize_t (*real)(int, void *, size_t);
+    if (real == NULL)
+        *(void **)&real = dlsym(RTLD_NEXT, "read");
+    if (fault("early-mark") != NULL)
+        leave_mark();
+    return real(fd, bytes, len);
 }
 
 static void make_empty(const char *name)

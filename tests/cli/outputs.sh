@@ -138,7 +138,7 @@ test_no_links() {
 test_full_disk() {
     for line in "seal --key key128 clear" "open --key key128 sealed128" "show clear" "labels sealed128" \
         "pack --trials trials.csv plan.csv" "unpack --trials x clear" "unpack clear" "find --key key128 sealed128 41 0" \
-        "check plan.csv" "keygen -" "note --key key128 --counter $counter note" "--help" "help seal" "--version"; do
+        "check plan.csv" "keygen -" "page clear" "note --key key128 --counter $counter note" "--help" "help seal" "--version"; do
         "$planbook" $line >/dev/full 2>err
         judge "planbook $line, full disk" 2 "cannot write standard output: No space left on device" $?
         "$planbook" $line >&- 2>err
@@ -236,7 +236,7 @@ test_permissions() {
     chmod 600 key128
     cp clear unreadable
     chmod 0 unreadable
-    for line in show "note --key key128 --counter $counter"; do
+    for line in show page "note --key key128 --counter $counter"; do
         $as_other ./other $line unreadable 2>err
         judge "planbook $line: an input that may not be read" 2 "cannot open unreadable: Permission denied" $?
     done
@@ -260,4 +260,6 @@ test_terminal() {
     judge "labels go to a terminal" 0 "41 0 $cipher128" $?
     script -qec "'$planbook' open --csv --key key128 sealed128" /dev/null >err 2>&1 </dev/null
     judge "a plan goes to a terminal" 0 "41,7,2,12,3" $?
+    script -qec "'$planbook' page clear" /dev/null >err 2>&1 </dev/null
+    judge "a page goes to a terminal" 0 "        41          7 2  12   3" $?
 }

@@ -31,7 +31,7 @@ good_plot() {
 # by all that read plans.
 bad_plot() {
     books_of_plot "$1" "$2"
-    for line in "seal --key key128 --way 1" "seal --key key128 --way 2" "seal --key key128 --way 3" show unpack; do
+    for line in "seal --key key128 --way 1" "seal --key key128 --way 2" "seal --key key128 --way 3" show unpack page; do
         expect_exactly 1 "planbook: plot.clear, trial 41, place 0: $3 [check 11]" $line plot.clear x
         holds "$line makes nothing of plot $1,$2" [ ! -e x ]
     done

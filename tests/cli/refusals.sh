@@ -27,6 +27,15 @@ test_usage() {
     expect_nothing x 2 "note has no option --trials" note --key key128 --counter $counter --trials trials.csv note x
     expect_nothing x 2 "y is one word too many: note takes [NOTE [OUT]]" note --key key128 --counter $counter note x y
     expect_nothing x 2 "y is one word too many: seal takes [PLAN | CLEAR [SEALED]]" seal --key key128 clear x y
+    expect_nothing x 2 "y is one word too many: page takes [CLEAR [TEXT]]" page clear x y
+    expect_nothing x 2 "--sheet needs a value: N" page clear x --sheet
+    expect_nothing x 2 "--sheet is given twice" page --sheet 0 --sheet=0 clear x
+    for option in --key --key-hex --way --trials --json; do
+        expect_nothing x 2 "page has no option $option; planbook page --help lists them" page $option 1 clear x
+    done
+    for verb in show unpack labels; do
+        expect_nothing x 2 "$verb has no option --sheet; planbook $verb --help lists them" $verb --sheet 0 clear x
+    done
     expect_nothing x 2 "only one of the inputs" seal --key - - x
     expect_nothing x 2 "only one of the inputs" pack --trials - - x
     expect_nothing x 2 "only one of the inputs" note --key - --counter $counter - x
@@ -46,11 +55,11 @@ test_usage() {
 }
 
 test_help() {
-    verbs='keygen|check|seal|open|show|labels|find|pack|unpack|note'
+    verbs='keygen|check|seal|open|show|labels|find|pack|unpack|page|note'
     for words in --help -h help; do
         expect 0 "" $words
-        holds "$words names every verb" [ "$(grep -cE "planbook ($verbs) " out)" -eq 10 ]
-        holds "$words says what each does" [ "$(grep -cE "^  ($verbs) +[A-Z]" out)" -eq 10 ]
+        holds "$words names every verb" [ "$(grep -cE "planbook ($verbs) " out)" -eq 11 ]
+        holds "$words says what each does" [ "$(grep -cE "^  ($verbs) +[A-Z]" out)" -eq 11 ]
     done
     for verb in $(echo $verbs | tr '|' ' '); do
         "$planbook" --help | sed -n "s/.*\(planbook $verb .*\)/usage: \1/p" >wanted
@@ -67,6 +76,10 @@ test_help() {
     holds "the usage of note" grep -qxF "usage: planbook note --key FILE | --key-hex FILE --counter HEX [--way N] [--force] [NOTE [OUT]]" out
     holds "the help of note has its options" [ "$(grep -cE '^  --(key|key-hex|counter|way|force) ' out)" -eq 5 ]
     holds "and no others" [ "$(grep -cE '^  --' out)" -eq 5 ]
+    expect 0 "" page --help
+    holds "the usage of page" grep -qxF "usage: planbook page [--sheet N] [--force] [CLEAR [TEXT]]" out
+    holds "the help of page has its options" [ "$(grep -cE '^  --(sheet|force) ' out)" -eq 2 ]
+    holds "and no others" [ "$(grep -cE '^  --' out)" -eq 2 ]
     expect 2 "close is not a verb" help close
     expect 2 "seal is one word too many after --help" --help seal
     expect 2 "x is one word too many after seal" help seal x
@@ -149,7 +162,7 @@ test_keys() {
     umask 022
 }
 
-# bad_clear CHECK SENTENCE HEX..: a clear book that sealing, show and unpack refuse.
+# bad_clear CHECK SENTENCE HEX..: a clear book that sealing, show, unpack and page refuse, whatever sheet the page is of.
 bad_clear() {
     message="planbook: damaged$2 [check $1]"
     shift 2
@@ -157,7 +170,9 @@ bad_clear() {
     expect_exactly 1 "$message" seal --key key128 damaged x
     expect_exactly 1 "$message" show damaged x
     expect_exactly 1 "$message" unpack --trials y damaged x
-    holds "no plan of a refused book" [ ! -e x ]
+    expect_exactly 1 "$message" page damaged x
+    expect_exactly 1 "$message" page --sheet 64 damaged x
+    holds "no plan or page of a refused book" [ ! -e x ]
     holds "no trials of a refused book" [ ! -e y ]
 }
 
@@ -181,8 +196,8 @@ test_books() {
     bad_clear 8 " has 12 bytes, but the contents of its 1 trials need 28: its end is missing" 01000001 0000002900010000
     bad_clear 9 ": trial 41 has 0 plots, and a trial has 1 to 1,024" 01000001 0000002900000000$start
     bad_clear 9 ": trial 41 has 1,025 plots, and a trial has 1 to 1,024" 01000001 0000002904010000$start
-    bad_clear 9 ", sheet 1: trial 0, but trials begin at 1" 01000001 0000000000010000$start $record
-    bad_clear 9 ", sheet 2: trial 41 comes after trial 41, but trials must rise" 01000002 $entry $entry $record $record
+    bad_clear 9 ", sheet 0: trial 0, but trials begin at 1" 01000001 0000000000010000$start $record
+    bad_clear 9 ", sheet 1: trial 41 comes after trial 41, but trials must rise" 01000002 $entry $entry $record $record
     bad_clear 9 ": trial 41 has 9 replicates, and a trial has at most 8" 01000001 0000002900010900$start $record
     bad_clear 9 ": trial 41 has 255 replicates, and a trial has at most 8" 01000001 000000290001ff00$start $record
     bad_clear 9 ": the reserved byte of trial 41 in the contents is not zero" 01000001 0000002900010001$start $record
@@ -221,7 +236,7 @@ test_books() {
     expect_exactly 1 "planbook: plan.csv is text, and a plan book is needed here [check 6]" open --key key128 plan.csv x
     bad_clear 6 " is no clear plan book: it begins with 41 42 and not with 01 00" 41424344 0a000000
     bad_sealed 6 " is no sealed plan book: it begins with ff d8 and not with 02 00" ffd8ffe0 00104a46
-    for verb in "seal --key key128" "open --key key128" show labels unpack; do
+    for verb in "seal --key key128" "open --key key128" show labels unpack page; do
         expect_nothing x 1 "/dev/zero is longer than a plan book can be, which is 65,532 bytes [check 5]" $verb /dev/zero x
     done
     head -c 43 sealed128 >cut

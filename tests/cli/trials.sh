@@ -176,7 +176,7 @@ opens_as_before() {
 # is_refused_since FOLDER TRIAL PLACE SENTENCE: a book that was good in its season, with a plot that breaks the rule of today.
 is_refused_since() {
     refused="planbook: $1/clear.book, trial $2, place $3: $4 [check 11]"
-    for line in "seal --key-hex past.hex --way 1" "seal --key-hex past.hex --way 2" "seal --key-hex past.hex --way 3" show "unpack --trials y"; do
+    for line in "seal --key-hex past.hex --way 1" "seal --key-hex past.hex --way 2" "seal --key-hex past.hex --way 3" show "unpack --trials y" page; do
         expect_exactly 1 "$refused" $line "$1/clear.book" x
         holds "$line makes nothing of $1" [ ! -e x ]
         holds "$line makes no trials of $1" [ ! -e y ]

@@ -316,5 +316,8 @@ test_memory() {
     valgrind -q --leak-check=full --error-exitcode=9 "$plain" note --key key128 --counter $counter note128 >out 2>err
     judge "valgrind planbook note" 0 "" $?
     same out note
+    valgrind -q --leak-check=full --error-exitcode=9 "$plain" page clear >out 2>err
+    judge "valgrind planbook page" 0 "" $?
+    holds "the page, under valgrind" grep -qx '        41          7 2  12   3' out
     rm -f x
 }
