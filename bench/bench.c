@@ -50,7 +50,7 @@ int main(int argc, char **argv)
     if (!o.beside)
         check_rule();
     draw_inputs();
-    list_tasks();
+    list_tasks(sides_have_pages());
     struct disturbance d = measure_tasks(o.patience_ns);
     if (o.beside) {
         print_beside(&d);

@@ -1,4 +1,4 @@
-/* Ways 1 and 3 as the scope has them: each byte's substitution and products by themselves. A part of plain.c. */
+/* Ways 1 and 3 as the scope has them: each byte's substitution and products by themselves; and a page's numbers digit by digit. A part of plain.c. */
 
 /*
  * GF(2^8) modulo z^8+z^4+z^3+z^2+1. The bit that leaves x is the one 11d clears,
@@ -77,4 +77,14 @@ INLINE uint32_t mixed(struct quad s, uint32_t m0, uint32_t m1, uint32_t m2, uint
 {
     return row(s, m0, m1, m2, m3) << 24 | row(s, m1, m0, m3, m2) << 16
          | row(s, m2, m3, m0, m1) << 8 | row(s, m3, m2, m1, m0);
+}
+
+/* A number in a field, from its last digit on, and a space wherever no digit is left. */
+INLINE void put_number(uint8_t *at, int width, uint32_t n)
+{
+    at[width - 1] = (uint8_t)('0' + n % 10);
+    for (int i = width - 2; i >= 0; i--) {
+        n /= 10;
+        at[i] = (uint8_t)(n == 0 ? ' ' : '0' + n % 10);
+    }
 }

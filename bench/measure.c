@@ -20,7 +20,7 @@ static double time_calls(const struct task *t, enum side side)
 
 static void check_tasks(void)
 {
-    for (size_t i = 0; i < TASKS; i++) {
+    for (size_t i = 0; i < task_count; i++) {
         struct task *t = &tasks[i];
         make_ready(t);
         check_agreement(t);
@@ -33,7 +33,7 @@ static void check_tasks(void)
 static void time_sides(const struct task *t, int turn, double ns[SIDES])
 {
     const enum side first = turn % 2 == 0 ? LIBRARY : PLAIN;
-    const enum side order[SIDES] = {first, first == LIBRARY ? PLAIN : LIBRARY, PACKED};
+    const enum side order[SIDES] = {first, first == LIBRARY ? PLAIN : LIBRARY, PACKED, PRINTED};
     for (int k = 0; k < SIDES; k++)
         if (has_side(t, order[k]))
             ns[order[k]] = time_calls(t, order[k]);
@@ -82,7 +82,7 @@ struct disturbance measure_tasks(double patience_ns)
         }
         if (turn % 10 == 0)
             fprintf(stderr, "bench: turn %d of %d\n", turn, turns);
-        for (size_t i = 0; i < TASKS; i++) {
+        for (size_t i = 0; i < task_count; i++) {
             double ns[SIDES] = {0};
             make_ready(&tasks[i]);
             time_task(&tasks[i], turn + WARM_UP_TURNS, ns, patience_ns, &d);

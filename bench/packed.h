@@ -1,4 +1,4 @@
-/* Ways 1 and 3 with the four bytes of a word doubled at once. A part of plain.c where it is built as packed.c. */
+/* Ways 1 and 3 with the four bytes of a word doubled at once, and a page's digits two at a time. A part of plain.c where it is built as packed.c. */
 
 #define EACH 0x01010101u
 
@@ -61,4 +61,23 @@ INLINE uint32_t mixed(uint32_t s, uint32_t m0, uint32_t m1, uint32_t m2, uint32_
          ^ ((by1 & 0x00ff00ff) << 8 | (by1 >> 8 & 0x00ff00ff))
          ^ (by2 << 16 | by2 >> 16)
          ^ __builtin_bswap32(products(s, m3 * EACH));
+}
+
+static const char DIGIT_PAIRS[] =
+    "00010203040506070809101112131415161718192021222324"
+    "25262728293031323334353637383940414243444546474849"
+    "50515253545556575859606162636465666768697071727374"
+    "75767778798081828384858687888990919293949596979899";
+
+/* A number in a field, by the pairs of its digits from the last on, over spaces. */
+INLINE void put_number(uint8_t *at, int width, uint32_t n)
+{
+    uint8_t *end = at + width;
+    memset(at, ' ', (size_t)width);
+    for (; n >= 100; n /= 100)
+        memcpy(end -= 2, DIGIT_PAIRS + 2 * (n % 100), 2);
+    if (n >= 10)
+        memcpy(end - 2, DIGIT_PAIRS + 2 * n, 2);
+    else
+        end[-1] = (uint8_t)('0' + n);
 }

@@ -4,7 +4,8 @@
  * ways 1 and 3, each byte's substitution and products by themselves, because
  * the limits are about what a proved program costs beside C and not about
  * another algorithm: four bytes doubled in one word are faster (packed.h;
- * docs/BENCH.md has both).
+ * docs/BENCH.md has both). A page is written digit by digit, for the same
+ * reason.
  *
  * Where the cipher is worked out, the way is always a constant: everything that
  * depends on it is inlined into one copy for each way, so that no test of the
@@ -13,6 +14,7 @@
 #include "plain.h"
 #include "plain_tables.h"
 
+#include <stdio.h>
 #include <string.h>
 
 #define INLINE static inline __attribute__((always_inline))
@@ -22,6 +24,7 @@ enum { BLOCK = 16, HEAD = 4, ENTRY = 24, IV_AT = 8 };
 enum { MOST_BYTES = 65532, MOST_SHEETS = 64, MOST_RECORDS = 1024, MOST_REPLICATES = 8, REPLICATES_BY_DEFAULT = 4 };
 enum { MOST_ROW = 999, MOST_COLUMN = 999, PLOT_AT = 9 };
 enum { MOST_NOTE_BYTES = 16384 };
+enum { LINE = 32 };
 enum { CLEAR = 1, SEALED = 2 };
 enum { ABREAST = 4 };
 
@@ -85,7 +88,7 @@ INLINE uint32_t s0_by_rules(uint32_t x)
     return (uint32_t)NIBBLE_BOXES[2][t0 ^ twice4(t1)] << 4 | NIBBLE_BOXES[3][twice4(t0) ^ t1];
 }
 
-/* What ways 1 and 3 do with the four bytes of a word: substituted() and mixed(). */
+/* What ways 1 and 3 do with the four bytes of a word, substituted() and mixed(), and a page with a number, put_number(). */
 #ifdef PACKED
 #include "packed.h"
 #else
@@ -697,3 +700,71 @@ uint64_t plain_crypt_note(const uint8_t *key, size_t key_len, uint64_t way,
     crypt_bytes_by(way, &s, counter, note, out, note_len);
     return note_len;
 }
+
+/* Planting pages. */
+
+typedef void line_writer(const uint8_t *record, uint8_t *line);
+
+INLINE void put_line(const uint8_t *record, uint8_t *line)
+{
+    struct quad r = load_quad(record);
+    uint32_t plot = load_word(record + PLOT_AT);
+    put_number(line, 10, r.a);
+    line[10] = ' ';
+    put_number(line + 11, 10, r.b);
+    line[21] = ' ';
+    put_number(line + 22, 1, r.c >> 24);
+    line[23] = ' ';
+    put_number(line + 24, 3, plot >> 16);
+    line[27] = ' ';
+    put_number(line + 28, 3, plot & 0xffff);
+    line[31] = '\n';
+}
+
+/* The call, with one copy for each way to write a line. */
+INLINE uint64_t page_call(line_writer *write_line, const uint8_t *book, size_t book_len, uint64_t sheet,
+                          uint8_t *out, size_t out_len)
+{
+    size_t n, records;
+    int failed = check_format(CLEAR, book, book_len, &n, &records);
+    if (failed)
+        return refused(failed);
+    const uint8_t *entry = book + HEAD, *body = book + HEAD + ENTRY * n;
+    if (!records_hold(entry, n, body))
+        return refused(11);
+    if (sheet >= n)
+        return refused(13);
+    for (; sheet > 0; sheet--, entry += ENTRY)
+        body += BLOCK * (load_word(entry + 4) >> 16);
+    size_t count = load_word(entry + 4) >> 16;
+    if (out_len != LINE * (count + 1))
+        return refused(4);
+    memcpy(out, "     TRIAL      ENTRY R ROW COL\n", LINE);
+    for (size_t i = 0; i < count; i++)
+        write_line(body + BLOCK * i, out + LINE * (i + 1));
+    return count + 1;
+}
+
+uint64_t plain_page(const uint8_t *book, size_t book_len, uint64_t sheet,
+                    uint8_t *out, size_t out_len)
+{
+    return page_call(put_line, book, book_len, sheet, out, out_len);
+}
+
+#ifndef PACKED
+/* By the C library, by way of a buffer: a zero comes behind the line, and the compiler does not know that rows are below 1,000. */
+static void print_line(const uint8_t *record, uint8_t *line)
+{
+    struct quad r = load_quad(record);
+    uint32_t plot = load_word(record + PLOT_AT);
+    char text[2 * LINE];
+    snprintf(text, sizeof text, "%10u %10u %1u %3u %3u\n", r.a, r.b, r.c >> 24, plot >> 16, plot & 0xffff);
+    memcpy(line, text, LINE);
+}
+
+uint64_t printed_page(const uint8_t *book, size_t book_len, uint64_t sheet,
+                      uint8_t *out, size_t out_len)
+{
+    return page_call(print_line, book, book_len, sheet, out, out_len);
+}
+#endif

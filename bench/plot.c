@@ -88,23 +88,26 @@ enum { SHOWN_COUNT = sizeof SHOWN / sizeof SHOWN[0] };
 
 static void draw_ratios(FILE *f)
 {
-    static const char *const ways[WAYS] = {"way 1, byte tables", "way 2, word tables", "way 3, by the rules"};
-    static const int colours[WAYS] = {0, 1, 2};
-    double values[SHOWN_COUNT][WAYS], high = 1.5;
+    static const char *const ways[BARS_MOST] = {"way 1, byte tables", "way 2, word tables", "way 3, by the rules", "no way"};
+    static const int colours[BARS_MOST] = {0, 1, 2, 3};
+    const struct task *page = find_task(PAGE, LARGEST_SHEET, 0, 0);
+    double page_ratio = median_ratio(page->ns[LIBRARY], page->ns[PLAIN]);
+    double values[SHOWN_COUNT][WAYS], high = fmax(1.5, ceil(page_ratio * 2) / 2);
     for (int i = 0; i < SHOWN_COUNT; i++)
         for (int w = 0; w < WAYS; w++) {
             const struct task *t = find_task(SHOWN[i].kind, SHOWN[i].blocks, 16, (uint64_t)w + 1);
             values[i][w] = median_ratio(t->ns[LIBRARY], t->ns[PLAIN]);
             high = fmax(high, ceil(values[i][w] * 2) / 2);
         }
-    struct panel p = {f, TOP, 0, high, 0, SHOWN_COUNT, 0, "%.2f"};
+    struct panel p = {f, TOP, 0, high, 0, SHOWN_COUNT + 1, 0, "%.2f"};
     text(f, LEFT, TOP - 26, "font-weight=\"bold\"",
          "Time of the library over time of plain C (1 is equal, lower is faster), 16-byte key");
     for (double at = 0; at <= high; at += 0.5)
         line_at(&p, at, at == 1 ? "stroke=\"#333333\" stroke-dasharray=\"5 3\"" : "stroke=\"#dddddd\"");
     for (int i = 0; i < SHOWN_COUNT; i++)
         bars(&p, SHOWN[i].name, values[i], colours, WAYS);
-    legend(&p, ways, WAYS);
+    bars(&p, "page of 1,024", &page_ratio, colours + WAYS, 1);
+    legend(&p, ways, BARS_MOST);
 }
 
 static void way_bars(struct panel *p, const char *name, uint64_t way)

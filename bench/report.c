@@ -27,10 +27,15 @@ static void print_run(const struct disturbance *d)
 static void print_task(const struct task *t)
 {
     static const char *names[] = {"expand a key", "encrypt one block", "decrypt one block",
-                                  "seal a book", "open a book", "a note"};
-    printf("| %zu | %d | %s", t->key_len, (int)t->way, names[t->kind]);
+                                  "seal a book", "open a book", "a note", "a page"};
+    if (t->kind == PAGE)
+        printf("| none | none | %s", names[t->kind]);
+    else
+        printf("| %zu | %d | %s", t->key_len, (int)t->way, names[t->kind]);
     if (t->kind == CRYPT_NOTE)
         printf(" of %zu bytes, a block of 16", 16 * t->blocks);
+    else if (t->kind == PAGE)
+        printf(" of %zu records, a line", t->blocks);
     else if (t->blocks > 0)
         printf(" of %zu records, a record", t->blocks);
     printf(" | %.1f | %.1f | %.3f |\n", task_ns(t, LIBRARY), task_ns(t, PLAIN),
@@ -41,6 +46,8 @@ static void print_tasks(const char *columns)
 {
     printf("| key bytes | way | measured | %s |\n|---:|---:|---|---:|---:|---:|\n", columns);
     for (size_t i = 0; i < MAIN_TASKS; i++)
+        print_task(&tasks[i]);
+    for (size_t i = FIRST_PAGE; i < task_count; i++)
         print_task(&tasks[i]);
 }
 
@@ -54,6 +61,20 @@ static void print_packed(void)
             printf("| %zu | %d | %.1f | %.3f | %.3f |\n", t->key_len, (int)t->way, task_ns(t, PACKED),
                    median_ratio(t->ns[PACKED], t->ns[PLAIN]), median_ratio(t->ns[LIBRARY], t->ns[PACKED]));
     }
+}
+
+static void print_page_by(const char *how, enum side side)
+{
+    const struct task *t = find_task(PAGE, LARGEST_SHEET, 0, 0);
+    printf("| %s | %.1f | %.3f | %.3f |\n", how, task_ns(t, side), median_ratio(t->ns[side], t->ns[PLAIN]),
+           median_ratio(t->ns[LIBRARY], t->ns[side]));
+}
+
+static void print_other_pages(void)
+{
+    printf("| page of %d records | ns a line | over plain C | library over it |\n|---|---:|---:|---:|\n", LARGEST_SHEET);
+    print_page_by("plain C, two digits at a time, from a table", PACKED);
+    print_page_by("plain C, each line by snprintf", PRINTED);
 }
 
 static void print_scales(const struct scale *scales, size_t scale_count)
@@ -93,6 +114,8 @@ int print_report(const struct disturbance *d, const struct scale *scales, size_t
     print_tasks("library ns | plain C ns | library / C");
     printf("\nPlain C with four bytes doubled in one word, which no limit is about:\n\n");
     print_packed();
+    printf("\nThe lines of a page by other means, which no limit is about either:\n\n");
+    print_other_pages();
     printf("\nFor scale, what a user might take instead:\n\n");
     print_scales(scales, scale_count);
     printf("\nGrowth with the number of records, 16-byte key, way 2:\n\n");

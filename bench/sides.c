@@ -11,20 +11,34 @@ typedef uint64_t keyed_call(const uint8_t *key, size_t key_len, uint64_t way,
 typedef uint64_t note_call(const uint8_t *key, size_t key_len, uint64_t way,
                            const uint8_t *counter, size_t counter_len,
                            const uint8_t *note, size_t note_len, uint8_t *out, size_t out_len);
+typedef uint64_t page_call(const uint8_t *book, size_t book_len, uint64_t sheet, uint8_t *out, size_t out_len);
 
+/* Where a side has no such call, null. */
 struct calls {
     expand_call *expand_key;
     keyed_call *encrypt_block, *decrypt_block, *encrypt_book, *decrypt_book;
     note_call *crypt_note;
+    page_call *page;
 };
+
+/* bench/run has another name for it where an earlier library has no such call. */
+#ifndef PLAIN_PAGE
+#define PLAIN_PAGE plain_page
+#endif
 
 static const struct calls sides[SIDES] = {
     [LIBRARY] = {planbook_expand_key, planbook_encrypt_block, planbook_decrypt_block,
-                 planbook_encrypt_book, planbook_decrypt_book, planbook_crypt_note},
+                 planbook_encrypt_book, planbook_decrypt_book, planbook_crypt_note, planbook_page},
     [PLAIN] = {plain_expand_key, plain_encrypt_block, plain_decrypt_block,
-               plain_encrypt_book, plain_decrypt_book, plain_crypt_note},
-    [PACKED] = {.encrypt_book = packed_encrypt_book},
+               plain_encrypt_book, plain_decrypt_book, plain_crypt_note, PLAIN_PAGE},
+    [PACKED] = {.encrypt_book = packed_encrypt_book, .page = packed_page},
+    [PRINTED] = {.page = printed_page},
 };
+
+int sides_have_pages(void)
+{
+    return sides[PLAIN].page != NULL;
+}
 
 /* Held to the vectors of the CLEFIA specification 1.0, section 2.5. */
 
@@ -104,15 +118,6 @@ static void check_constants(void)
     }
 }
 
-void check_sides(void)
-{
-    check_vectors(&sides[LIBRARY]);
-    check_vectors(&sides[PLAIN]);
-    check_note(&sides[LIBRARY]);
-    check_note(&sides[PLAIN]);
-    check_constants();
-}
-
 /* A clear book: sheets of 1,024 records and one with the rest. */
 
 static void put_number(uint8_t *p, uint32_t n, int bytes)
@@ -171,6 +176,78 @@ static size_t make_book(uint8_t *book, size_t records)
     return (size_t)(at - book);
 }
 
+/* Held to two pages that were typed out, and to the checks and their order. */
+
+static const uint8_t page_book[100] = {
+    1, 0, 0, 2, 0, 0, 0, 41, 0, 2, [28] = 0, 0, 0, 42, 0, 1,
+    [52] = 0, 0, 0, 41, 0, 0, 0, 7, 2, 0, 12, 0, 3,
+    [68] = 0, 0, 0, 41, 255, 255, 255, 255, 4, 3, 231, 3, 231,
+    [84] = 0, 0, 0, 42, 0, 0, 1, 0, 1,
+};
+static const char *const page_texts[] = {
+    "     TRIAL      ENTRY R ROW COL\n"
+    "        41          7 2  12   3\n"
+    "        41 4294967295 4 999 999\n",
+    "     TRIAL      ENTRY R ROW COL\n"
+    "        42        256 1   0   0\n",
+};
+enum { LONGEST_TYPED_PAGE = 96 };
+
+/* A byte of that book is changed, and so many bytes of it are given. */
+static const struct {
+    size_t len, at;
+    uint8_t value;
+    uint64_t sheet;
+    size_t out_len;
+    int check;
+} refused_pages[] = {
+    {3, 0, 1, 0, 96, 5}, {100, 0, 2, 0, 96, 6}, {100, 1, 1, 0, 96, 6}, {100, 2, 1, 0, 96, 7}, {51, 0, 1, 0, 96, 8},
+    {100, 9, 0, 0, 32, 9}, {100, 11, 1, 0, 96, 9}, {100, 35, 1, 0, 96, 9}, {99, 0, 1, 0, 96, 10}, {100, 9, 1, 0, 64, 10},
+    {100, 67, 1, 0, 96, 11}, {100, 99, 1, 0, 96, 11}, {100, 67, 1, 1, 64, 11}, {100, 99, 1, 1, 64, 11},
+    {100, 0, 1, 2, 64, 13}, {100, 0, 1, (uint64_t)1 << 32, 96, 13}, {4, 3, 0, 0, 32, 13},
+    {100, 0, 1, 0, 95, 4}, {100, 0, 1, 0, 64, 4}, {100, 0, 1, 0, 128, 4}, {100, 0, 1, 1, 96, 4},
+    {100, 99, 1, 2, 95, 11}, {100, 99, 1, 0, 95, 11}, {100, 0, 1, 2, 95, 13},
+};
+
+static int page_is_refused(const struct calls *s, size_t i)
+{
+    uint8_t book[sizeof page_book], out[LONGEST_TYPED_PAGE + 32], untouched[sizeof out];
+    memset(out, 0xa5, sizeof out);
+    memset(untouched, 0xa5, sizeof out);
+    memcpy(book, page_book, sizeof book);
+    book[refused_pages[i].at] = refused_pages[i].value;
+    return s->page(book, refused_pages[i].len, refused_pages[i].sheet, out, refused_pages[i].out_len)
+               == (uint64_t)refused_pages[i].check << 32
+        && memcmp(out, untouched, sizeof out) == 0;
+}
+
+static void check_page(const struct calls *s)
+{
+    uint8_t out[LONGEST_TYPED_PAGE];
+    if (s->page == NULL)
+        return;
+    for (size_t sheet = 0; sheet < 2; sheet++) {
+        size_t len = strlen(page_texts[sheet]);
+        if (s->page(page_book, sizeof page_book, sheet, out, len) != len / PLANBOOK_LINE_BYTES
+            || memcmp(out, page_texts[sheet], len) != 0)
+            stop("a side does not give a page that was typed out");
+    }
+    for (size_t i = 0; i < sizeof refused_pages / sizeof refused_pages[0]; i++)
+        if (!page_is_refused(s, i))
+            stop("a side does not refuse a page as it must");
+}
+
+void check_sides(void)
+{
+    for (int side = LIBRARY; side <= PLAIN; side++) {
+        check_vectors(&sides[side]);
+        check_note(&sides[side]);
+    }
+    check_constants();
+    for (int side = 0; side < SIDES; side++)
+        check_page(&sides[side]);
+}
+
 /*
  * Held to the rule of records, so that no side is timed without a part of it.
  * Each record stands alone in a book; the start block of the sealed one is
@@ -189,16 +266,17 @@ static const struct {
 
 static int judges_so(const struct calls *s, struct record r, uint64_t answer)
 {
-    enum { LEN = 44, IV_AT = 12, RECORD_AT = 28, WAY = PLANBOOK_WAY_WORD_TABLES };
-    uint8_t book[LEN], sealed[LEN], before[16], out[LEN];
+    enum { LEN = 44, IV_AT = 12, RECORD_AT = 28, WAY = PLANBOOK_WAY_WORD_TABLES, PAGE_LEN = 2 * PLANBOOK_LINE_BYTES };
+    uint8_t book[LEN], sealed[LEN], before[16], out[PAGE_LEN];
     make_book(book, 1);
     plain_encrypt_book(vector_key, 16, WAY, book, LEN, sealed, LEN);
     memcpy(before, book + RECORD_AT, sizeof before);
     put_record(book + RECORD_AT, r);
     for (int i = 0; i < 16; i++)
         sealed[IV_AT + i] ^= before[i] ^ book[RECORD_AT + i];
-    return s->encrypt_book(vector_key, 16, WAY, book, LEN, out, LEN) == answer
-        && (s->decrypt_book == NULL || s->decrypt_book(vector_key, 16, WAY, sealed, LEN, out, LEN) == answer);
+    return (s->encrypt_book == NULL || s->encrypt_book(vector_key, 16, WAY, book, LEN, out, LEN) == answer)
+        && (s->decrypt_book == NULL || s->decrypt_book(vector_key, 16, WAY, sealed, LEN, out, LEN) == answer)
+        && (s->page == NULL || s->page(book, LEN, 0, out, PAGE_LEN) == (answer == 1 ? 2 : answer));
 }
 
 void check_rule(void)
@@ -246,6 +324,8 @@ void make_ready(const struct task *t)
         input_len = output_len = make_note(input, 16 * t->blocks);
     else if (t->blocks > 0)
         input_len = output_len = make_book(input, t->blocks);
+    if (t->kind == PAGE)
+        output_len = PLANBOOK_LINE_BYTES * (t->blocks + 1);
     if (t->kind == DECRYPT_BOOK) {
         plain_encrypt_book(drawn_keys[0], t->key_len, PLANBOOK_WAY_WORD_TABLES, input, input_len,
                            output[0], input_len);
@@ -269,6 +349,8 @@ uint64_t call(const struct task *t, enum side side, size_t number)
         return s->encrypt_book(key, t->key_len, t->way, input, input_len, out, output_len);
     case DECRYPT_BOOK: /* opens under the key that sealed it */
         return s->decrypt_book(drawn_keys[0], t->key_len, t->way, input, input_len, out, output_len);
+    case PAGE:
+        return s->page(input, input_len, 0, out, output_len);
     default:
         return s->crypt_note(key, t->key_len, t->way, vector_counter, 16, input, input_len, out, output_len);
     }

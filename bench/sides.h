@@ -4,10 +4,14 @@
 
 #include "tasks.h"
 
-/* Stops unless the sides give the published test vectors, a note worked out elsewhere and the same constants. */
+/* Stops unless the sides give the published test vectors, a note worked out elsewhere, the same constants, and pages that were typed
+ * out, and refuse pages as stated. */
 void check_sides(void);
 
-/* Stops unless every side keeps the rule of records, in sealing and in opening. An earlier library may have had another one. */
+/* Whether the side beside the library has pages: an earlier library may have none. */
+int sides_have_pages(void);
+
+/* Stops unless every side keeps the rule of records, in sealing, in opening and for a page. An earlier library may have had another one. */
 void check_rule(void);
 
 /* Draws the keys and blocks that the calls go through, and which plots of a book are in reserve. */

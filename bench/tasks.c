@@ -7,8 +7,7 @@
 struct task tasks[TASKS];
 int turns = 41;
 const size_t growth_records[GROWTH_SIZES] = {511, 1022, 2044};
-
-static size_t task_count;
+size_t task_count;
 
 void stop(const char *why)
 {
@@ -29,7 +28,9 @@ const struct task *find_task(enum kind kind, size_t blocks, size_t key_len, uint
 
 int has_side(const struct task *t, enum side side)
 {
-    return side != PACKED || (t->kind == ENCRYPT_BOOK && t->blocks == LARGEST_BOOK && t->way != 2);
+    if (side == PACKED)
+        return t->kind == PAGE || (t->kind == ENCRYPT_BOOK && t->blocks == LARGEST_BOOK && t->way != 2);
+    return side != PRINTED || t->kind == PAGE;
 }
 
 static void add_task(enum kind kind, size_t blocks, size_t key_len, uint64_t way)
@@ -41,7 +42,7 @@ static void add_task(enum kind kind, size_t blocks, size_t key_len, uint64_t way
     t->way = way;
 }
 
-void list_tasks(void)
+void list_tasks(int with_pages)
 {
     for (size_t key_len = 16; key_len <= 32; key_len += 8)
         for (uint64_t way = 1; way <= WAYS; way++) {
@@ -58,6 +59,10 @@ void list_tasks(void)
     for (size_t i = 0; i < GROWTH_SIZES; i++) {
         add_task(ENCRYPT_BOOK, growth_records[i], 16, 2);
         add_task(DECRYPT_BOOK, growth_records[i], 16, 2);
+    }
+    if (with_pages) {
+        add_task(PAGE, SMALL_BOOK, 0, 0);
+        add_task(PAGE, LARGEST_SHEET, 0, 0);
     }
 }
 
@@ -83,7 +88,13 @@ double median_ratio(const double *above, const double *below)
     return median(ratios);
 }
 
+/* What a call's time is divided by. A page has a heading too. */
+static size_t parts(const struct task *t)
+{
+    return t->kind == PAGE ? t->blocks + 1 : t->blocks > 0 ? t->blocks : 1;
+}
+
 double task_ns(const struct task *t, enum side side)
 {
-    return median(t->ns[side]) / (t->blocks > 0 ? (double)t->blocks : 1.0);
+    return median(t->ns[side]) / (double)parts(t);
 }

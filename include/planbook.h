@@ -292,13 +292,14 @@ PLANBOOK_MUST_USE uint64_t planbook_page(const uint8_t *book, size_t book_len, u
 
 /*
  * The length of the page of a sheet, for out_len of planbook_page, read from the sheet's contents entry; at most
- * PLANBOOK_MAX_PAGE_BYTES. It is 0 where that entry is not there or its record count is above 1,024: the call then refuses
- * the book or the sheet, whatever is lent. Nothing else is checked here, and any bytes may be given.
+ * PLANBOOK_MAX_PAGE_BYTES. It is 0 where the book has no such sheet, ends before the entry does, or counts more than 1,024
+ * records there: the call then refuses the book or the sheet, whatever is lent. Nothing else is checked here, and any
+ * bytes may be given.
  */
 static inline size_t planbook_page_length(const uint8_t *book, size_t book_len, uint64_t sheet)
 {
     size_t entry, records;
-    if (sheet >= PLANBOOK_MAX_SHEETS)
+    if (book_len < PLANBOOK_HEAD_BYTES || sheet >= PLANBOOK_MAX_SHEETS || sheet >= book[2] * 256u + book[3])
         return 0;
     entry = PLANBOOK_HEAD_BYTES + PLANBOOK_ENTRY_BYTES * PLANBOOK_CAST(size_t, sheet);
     if (book_len < entry + PLANBOOK_ENTRY_BYTES)

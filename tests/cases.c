@@ -44,8 +44,10 @@ static int has(unsigned set, int check)
 
 unsigned checks_of(call_kind kind)
 {
-    unsigned set = 1u << CHECK_KEY | 1u << CHECK_OUTPUT_LENGTH;
-    if (kind != CALL_CONSTANTS)
+    unsigned set = 1u << CHECK_OUTPUT_LENGTH;
+    if (kind != CALL_PAGE)
+        set |= 1u << CHECK_KEY;
+    if (call_has_key(kind))
         set |= 1u << CHECK_WAY;
     if (call_is_block(kind) || kind == CALL_CRYPT_NOTE)
         set |= 1u << CHECK_BLOCK_LENGTH;
@@ -54,6 +56,8 @@ unsigned checks_of(call_kind kind)
             set |= 1u << check;
     if (kind == CALL_CRYPT_NOTE)
         set |= 1u << CHECK_NOTE_LENGTH;
+    if (kind == CALL_PAGE)
+        set |= 1u << CHECK_SHEET_INDEX;
     return set;
 }
 
@@ -233,9 +237,17 @@ static void longest_shape(generator *g, book_shape *shape)
     shape->counts[4] = rest;
 }
 
-static void choose_shape(generator *g, unsigned damages, book_shape *shape)
+/* The least number of sheets: one is needed for a page, and where something of a sheet is to be damaged. */
+static size_t least_sheets(call_kind kind, unsigned damages)
 {
-    size_t least = damages == 0 ? 0 : 1;
+    if (kind == CALL_PAGE)
+        return (damages & ~(1u << CHECK_OUTPUT_LENGTH)) == 1u << CHECK_SHEET_INDEX ? 0 : 1;
+    return damages == 0 ? 0 : 1;
+}
+
+static void choose_shape(generator *g, call_kind kind, unsigned damages, book_shape *shape)
+{
+    size_t least = least_sheets(kind, damages);
     uint64_t size = random_below(g, 2000);
     if (has(damages, CHECK_SHEET_NUMBER) && random_chance(g, 2))
         fill_shape(g, shape, random_between(g, MAX_SHEETS + 1, MAX_SHEETS + 20), 1, 2);
@@ -386,7 +398,7 @@ static void make_book(generator *g, unsigned damages, test_case *c)
     uint8_t *book = c->input;
     book_shape shape;
     size_t len;
-    choose_shape(g, damages, &shape);
+    choose_shape(g, c->in.kind, damages, &shape);
     len = make_clear_book(g, &shape, book);
     if (has(damages, CHECK_RECORD))
         damage_record(g, book, len);
@@ -445,14 +457,77 @@ static void make_note(generator *g, unsigned damages, test_case *c)
     c->in.counter_len = has(damages, CHECK_BLOCK_LENGTH) ? wrong_block_length(g) : COUNTER_LENGTH;
 }
 
+/* Pages. */
+
+/* A sheet index that a book of so many sheets does not have, often one that it would have in fewer bits. 24 times the fifth
+ * base is 0 in 64 bits. */
+static uint64_t wrong_sheet(generator *g, uint64_t sheets)
+{
+    static const uint64_t bases[] = {0x40, 0x100, 0x10000, 0x100000000, 0x2000000000000000, 0x8000000000000000};
+    switch (random_below(g, 5)) {
+    case 0: return sheets;
+    case 1: return sheets + random_below(g, 70);
+    case 2: return UINT64_MAX - random_below(g, 3);
+    case 3: return sheets + (random_number(g) >> random_between(g, 1, 63));
+    default: return sheets <= 0x40 ? ONE_OF(g, bases) + random_below(g, sheets + 1) : sheets;
+    }
+}
+
+/* One of the sheets that the head of the book says there are, or none of them. */
+static void choose_sheet(generator *g, unsigned damages, test_case *c)
+{
+    size_t sheets = c->in.input_len >= HEAD_LENGTH ? sheets_of(c->input) : 1;
+    if (sheets == 0 || has(damages, CHECK_SHEET_INDEX))
+        c->in.sheet = wrong_sheet(g, sheets);
+    else
+        c->in.sheet = random_below(g, sheets);
+}
+
+/* Where the book does not tell the length of a page, that of some small sheet. */
+static size_t right_output_length(generator *g, const call_input *in)
+{
+    size_t len = reference_output_length(in);
+    return in->kind == CALL_PAGE && len == 0 ? LINE_LENGTH * random_between(g, 2, 6) : len;
+}
+
+/* The sheet beside, the records without their heading, and what is wrong for any call. */
+static size_t wrong_page_length(generator *g, const test_case *c, size_t right)
+{
+    call_input beside = c->in;
+    size_t len = right - LINE_LENGTH;
+    if (random_chance(g, 2))
+        return wrong_output_length(g, right);
+    beside.sheet ^= 1;
+    if (random_chance(g, 2))
+        len = reference_output_length(&beside);
+    return len == right ? right + LINE_LENGTH : len;
+}
+
+static void choose_output_length(generator *g, unsigned damages, test_case *c)
+{
+    size_t right = right_output_length(g, &c->in);
+    if (!has(damages, CHECK_OUTPUT_LENGTH))
+        c->in.out_len = right;
+    else if (c->in.kind == CALL_PAGE)
+        c->in.out_len = wrong_page_length(g, c, right);
+    else
+        c->in.out_len = wrong_output_length(g, right);
+}
+
+static void choose_key(generator *g, test_case *c)
+{
+    random_fill(g, c->key, MAX_KEY);
+    c->in.key_len = ONE_OF(g, permitted_key_lengths);
+    c->in.way = random_between(g, 1, 3);
+}
+
 void make_case(generator *g, call_kind kind, unsigned damages, test_case *c)
 {
     call_input *in = &c->in;
     memset(in, 0, sizeof *in);
     in->kind = kind;
-    random_fill(g, c->key, MAX_KEY);
-    in->key_len = ONE_OF(g, permitted_key_lengths);
-    in->way = random_between(g, 1, 3);
+    if (kind != CALL_PAGE)
+        choose_key(g, c);
     in->input = c->input;
     if (call_is_block(kind)) {
         random_fill(g, c->input, MAX_KEY);
@@ -462,13 +537,13 @@ void make_case(generator *g, call_kind kind, unsigned damages, test_case *c)
         make_book(g, damages, c);
     if (kind == CALL_CRYPT_NOTE)
         make_note(g, damages, c);
-    if (kind != CALL_CONSTANTS)
+    if (kind == CALL_PAGE)
+        choose_sheet(g, damages, c);
+    if (call_has_key(kind))
         in->key = c->key;
     if (has(damages, CHECK_WAY))
         in->way = wrong_way(g);
-    in->out_len = reference_output_length(in);
-    if (has(damages, CHECK_OUTPUT_LENGTH))
-        in->out_len = wrong_output_length(g, in->out_len);
+    choose_output_length(g, damages, c);
     if (has(damages, CHECK_KEY))
         in->key_len = kind == CALL_CONSTANTS ? wrong_key_number(g) : wrong_key_length(g);
 }
@@ -476,7 +551,7 @@ void make_case(generator *g, call_kind kind, unsigned damages, test_case *c)
 void make_changed_case(generator *g, call_kind kind, test_case *c)
 {
     make_case(g, kind, 0, c);
-    if (kind != CALL_CONSTANTS && random_chance(g, 4)) {
+    if (call_has_key(kind) && random_chance(g, 4)) {
         c->key[random_below(g, c->in.key_len)] ^= (uint8_t)random_between(g, 1, 255);
         return;
     }
@@ -495,20 +570,22 @@ void make_random_case(generator *g, call_kind kind, test_case *c)
 {
     call_input *in = &c->in;
     make_case(g, kind, 0, c);
-    if (random_chance(g, 8))
+    if (kind != CALL_PAGE && random_chance(g, 8))
         in->key_len = kind == CALL_CONSTANTS ? random_number(g) : random_below(g, MAX_KEY + 1);
-    if (random_chance(g, 8))
+    if (kind != CALL_PAGE && random_chance(g, 8))
         in->way = random_below(g, 6);
+    if (kind == CALL_PAGE)
+        in->sheet = random_below(g, random_chance(g, 2) ? 4 : 70);
     if (call_is_block(kind))
         in->input_len = random_between(g, 14, 18);
     if (kind == CALL_CRYPT_NOTE)
         in->counter_len = random_between(g, 14, 18);
-    if (call_keeps_length(kind)) {
+    if (call_is_long(kind)) {
         in->input_len = random_input_length(g);
         random_fill(g, c->input, in->input_len);
     }
     if (call_is_book(kind) && in->input_len >= HEAD_LENGTH && !random_chance(g, 4)) {
-        c->input[0] = (uint8_t)(kind == CALL_ENCRYPT_BOOK ? CLEAR_BOOK : SEALED_BOOK);
+        c->input[0] = (uint8_t)(kind == CALL_DECRYPT_BOOK ? SEALED_BOOK : CLEAR_BOOK);
         c->input[1] = 0;
         put_half(c->input + 2, random_below(g, 4));
     }

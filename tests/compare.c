@@ -57,13 +57,14 @@ void fail(const char *format, ...)
 void describe_call(const call_input *in, char *text, size_t len)
 {
     snprintf(text, len,
-             "%s (key %" PRIu64 " bytes, way %" PRIu64 ", counter block %zu bytes, input %zu bytes, output %zu bytes)",
-             call_name(in->kind), in->key_len, in->way, in->counter_len, in->input_len, in->out_len);
+             "%s (key %" PRIu64 " bytes, way %" PRIu64 ", counter block %zu bytes, input %zu bytes, sheet %" PRIu64
+             ", output %zu bytes)",
+             call_name(in->kind), in->key_len, in->way, in->counter_len, in->input_len, in->sheet, in->out_len);
 }
 
 void fail_call(const call_input *in, const char *what, const char *how, ...)
 {
-    char call[200], text[200];
+    char call[250], text[200];
     va_list arguments;
     va_start(arguments, how);
     vsnprintf(text, sizeof text, how, arguments);
@@ -131,7 +132,7 @@ static void compare_output(const call_input *in, const char *what)
 /* Makes the call that expect_call was asked about. */
 static void make_call(const call_input *in, uint64_t expected, const char *what)
 {
-    size_t key_len = in->kind == CALL_CONSTANTS ? 0 : in->key_len;
+    size_t key_len = call_has_key(in->kind) ? in->key_len : 0;
     uint8_t *key = lend(in->key, key_len);
     uint8_t *counter = lend(in->counter, in->counter_len);
     uint8_t *input = lend(in->input, in->input_len);
@@ -163,12 +164,26 @@ verdict compare_call(const call_input *in, const char *what)
     return v;
 }
 
-void compare_ways(const call_input *in, uint64_t answer, const char *what)
+/* The reference must have the stated answer. */
+static verdict expect_stated(const call_input *in, uint64_t answer)
 {
-    call_input by_way = *in;
     verdict v = expect_call(in);
     if (v.answer != answer)
         fail_answer(in, "the reference itself", v.answer, answer);
+    return v;
+}
+
+verdict compare_stated(const call_input *in, uint64_t answer, const char *what)
+{
+    verdict v = expect_stated(in, answer);
+    make_call(in, answer, what);
+    return v;
+}
+
+void compare_ways(const call_input *in, uint64_t answer, const char *what)
+{
+    call_input by_way = *in;
+    expect_stated(in, answer);
     for (by_way.way = 1; by_way.way <= WAYS; by_way.way++)
         make_call(&by_way, answer, what);
 }

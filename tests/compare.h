@@ -28,8 +28,9 @@ void fail_answer(const call_input *in, const char *what, uint64_t answer, uint64
 /* Compares one call and returns the reference's verdict. */
 verdict compare_call(const call_input *in, const char *what);
 
-/* The same by each way, against an answer that is known without the reference,
- * which must then have it too. */
+/* The same against an answer that is known without the reference, which must
+ * then have it too; and that by each way. */
+verdict compare_stated(const call_input *in, uint64_t answer, const char *what);
 void compare_ways(const call_input *in, uint64_t answer, const char *what);
 
 /* The library's output of the last call that was compared. */

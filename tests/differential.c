@@ -6,6 +6,7 @@
  */
 #include "compare.h"
 #include "edges.h"
+#include "planbook.h"
 #include "vectors.h"
 
 #include <inttypes.h>
@@ -17,7 +18,7 @@ enum {
     BLOCK_CASES = 100000,   /* for each key length */
     ROUND_TRIPS = 300,      /* of books and of notes, for each key length */
     INPUT_CASES = 200000,   /* for each call */
-    LEAST_ANSWERS = 1000,   /* for each check of each call, and of notes in which the number wraps */
+    LEAST_ANSWERS = 1000,   /* for each check of each call, of notes in which the number wraps, of pages behind the first */
     PAIR_TRIES = 2000       /* to make two checks fail together */
 };
 
@@ -216,12 +217,22 @@ static uint64_t inputs[CALLS];
 static uint64_t long_books[CALLS];
 static size_t longest_accepted;
 static uint64_t wraps; /* accepted notes in which the number wraps behind a byte ff */
+static uint64_t later_sheets; /* accepted pages of a sheet behind the first */
 
 static int wraps_behind_ff(const call_input *in)
 {
     uint64_t blocks = (in->input_len + REFERENCE_BLOCK - 1) / REFERENCE_BLOCK;
     uint64_t number = reference_load_word(in->counter + COUNTER_PREFIX_LENGTH);
     return number + blocks > (uint64_t)UINT32_MAX + 1 && in->counter[COUNTER_PREFIX_LENGTH - 1] == 0xff;
+}
+
+/* The header's helper: the length that the call wants, or 0 where the book has no such sheet; none has more than 64. */
+static void check_page_length(const call_input *in)
+{
+    size_t len = planbook_page_length(in->input, in->input_len, in->sheet);
+    size_t due = in->sheet < MAX_SHEETS ? reference_output_length(in) : 0;
+    if (len != due)
+        fail_call(in, "random input", "planbook_page_length is %zu, expected %zu", len, due);
 }
 
 static void try_case(const test_case *c)
@@ -236,12 +247,16 @@ static void try_case(const test_case *c)
         longest_accepted = c->in.input_len;
     if (kind == CALL_CRYPT_NOTE && v.failing == 0)
         wraps += wraps_behind_ff(&c->in);
+    if (kind == CALL_PAGE) {
+        check_page_length(&c->in);
+        later_sheets += v.failing == 0 && c->in.sheet > 0;
+    }
     for (int b = 1; b <= LAST_CHECK; b++)
         if (b != (int)(v.answer >> 32) && (v.failing >> b & 1))
             pairs[kind][v.answer >> 32][b]++;
 }
 
-/* Why two checks cannot fail together in a call, or NULL if they can. */
+/* Why two checks cannot fail together in a call, or NULL if they can; a is the earlier. */
 static const char *why_impossible(call_kind kind, int a, int b)
 {
     if (a == CHECK_CONTENTS_LENGTH && b == CHECK_RECORD)
@@ -254,6 +269,12 @@ static const char *why_impossible(call_kind kind, int a, int b)
 static int in_call(call_kind kind, int check)
 {
     return checks_of(kind) >> check & 1;
+}
+
+/* Two checks of a call, the first of which is made before the other. */
+static int in_order(call_kind kind, int a, int b)
+{
+    return in_call(kind, a) && in_call(kind, b) && check_place(kind, a) < check_place(kind, b);
 }
 
 static int random_check(call_kind kind)
@@ -282,8 +303,8 @@ static void try_inputs(call_kind kind)
     static test_case c;
     uint64_t cases = scaled(INPUT_CASES);
     for (int a = 1; a <= LAST_CHECK; a++)
-        for (int b = a; b <= LAST_CHECK; b++)
-            if (in_call(kind, a) && in_call(kind, b) && why_impossible(kind, a, b) == NULL)
+        for (int b = 1; b <= LAST_CHECK; b++)
+            if ((in_order(kind, a, b) && why_impossible(kind, a, b) == NULL) || (a == b && in_call(kind, a)))
                 try_pair(kind, a, b);
     for (uint64_t i = 0; i < cases; i++) {
         uint64_t sort = i % 10;
@@ -325,8 +346,8 @@ static void report_pairs(call_kind kind)
     unsigned met = 0;
     printf("pairs, %s:", call_name(kind));
     for (int a = 1; a <= LAST_CHECK; a++)
-        for (int b = a + 1; b <= LAST_CHECK; b++) {
-            if (!in_call(kind, a) || !in_call(kind, b))
+        for (int b = 1; b <= LAST_CHECK; b++) {
+            if (!in_order(kind, a, b))
                 continue;
             if ((pairs[kind][a][b] > 0) == (why_impossible(kind, a, b) != NULL))
                 fail("%s: checks %d and %d failed together %" PRIu64 " times", call_name(kind), a, b,
@@ -338,8 +359,8 @@ static void report_pairs(call_kind kind)
         }
     printf(" (%u met)\n", met);
     for (int a = 1; a <= LAST_CHECK; a++)
-        for (int b = a + 1; b <= LAST_CHECK; b++)
-            if (in_call(kind, a) && in_call(kind, b) && why_impossible(kind, a, b) != NULL)
+        for (int b = 1; b <= LAST_CHECK; b++)
+            if (in_order(kind, a, b) && why_impossible(kind, a, b) != NULL)
                 printf("pairs, %s: %d+%d impossible: %s\n", call_name(kind), a, b, why_impossible(kind, a, b));
 }
 
@@ -350,12 +371,16 @@ static void compare_inputs(void)
         report_answers((call_kind)kind);
         report_pairs((call_kind)kind);
     }
-    printf("pairs, any call: 3 or 12 with 5 to 11 impossible: block and note calls have no book, book calls no block\n");
-    printf("long books: %" PRIu64 " encrypted, %" PRIu64 " decrypted of 10,000 bytes or more; longest accepted %zu\n",
-           long_books[CALL_ENCRYPT_BOOK], long_books[CALL_DECRYPT_BOOK], longest_accepted);
+    printf("pairs, any call: 3 or 12 with 5 to 11 or 13 impossible: block and note calls have no book, book calls no block\n");
+    printf("long books: %" PRIu64 " encrypted, %" PRIu64 " decrypted, %" PRIu64
+           " for a page, of 10,000 bytes or more; longest accepted %zu\n",
+           long_books[CALL_ENCRYPT_BOOK], long_books[CALL_DECRYPT_BOOK], long_books[CALL_PAGE], longest_accepted);
     printf("notes whose number wraps behind a byte ff: %" PRIu64 " accepted\n", wraps);
     if (wraps < scaled(LEAST_ANSWERS))
         fail("only %" PRIu64 " notes wrap, %" PRIu64 " are due", wraps, scaled(LEAST_ANSWERS));
+    printf("pages of a sheet behind the first: %" PRIu64 " accepted\n", later_sheets);
+    if (later_sheets < scaled(LEAST_ANSWERS))
+        fail("only %" PRIu64 " such pages, %" PRIu64 " are due", later_sheets, scaled(LEAST_ANSWERS));
 }
 
 int main(int argc, char **argv)
@@ -366,6 +391,7 @@ int main(int argc, char **argv)
     check_note_vectors();
     check_edges();
     check_note_edges();
+    check_pages();
     check_wide_numbers();
     compare_blocks();
     compare_notes();

@@ -7,7 +7,7 @@
 static uint8_t key_bytes[MAX_KEY];
 static uint8_t book[MAX_INPUT];
 static size_t book_len;
-static unsigned tried;
+static unsigned tried, tried_pages;
 
 static uint64_t refusal(int check)
 {
@@ -32,8 +32,34 @@ static uint8_t *record(size_t sheets, size_t j)
     return entry(sheets) + RECORD_LENGTH * j;
 }
 
+static size_t lines_of(size_t sheet)
+{
+    return 1 + ((size_t)entry(sheet)[4] << 8 | entry(sheet)[5]);
+}
+
+static void expect_page(size_t sheet, size_t lines, uint64_t answer, const char *what)
+{
+    call_input in = {CALL_PAGE, NULL, 0, 0, book, book_len, LINE_LENGTH * lines, NULL, 0, sheet};
+    compare_stated(&in, answer, what);
+    tried_pages++;
+}
+
+/* A book that is refused for what it is has no page either. One that is accepted has a page of each sheet, and no more. */
+static void expect_pages(uint64_t answer, const char *what)
+{
+    size_t sheets = (size_t)book[2] << 8 | book[3];
+    if (answer >> 32 != 0) {
+        expect_page(0, lines_of(0) <= MAX_RECORDS + 1 ? lines_of(0) : 2, answer, what);
+        return;
+    }
+    for (size_t i = 0; i < sheets; i++)
+        expect_page(i, lines_of(i), lines_of(i), what);
+    expect_page(sheets, 2, refusal(13), what);
+}
+
 /* Gives the book that is clear to encryption and the same book with its bodies
- * encrypted to decryption: both must have the stated answer, by every way. */
+ * encrypted to decryption: both must have the stated answer, by every way. Where
+ * it is the book's, the pages must have it too. */
 static void expect_lengths(uint64_t key_len, size_t out_len, uint64_t answer, const char *what)
 {
     static uint8_t sealed[MAX_INPUT];
@@ -51,6 +77,8 @@ static void expect_lengths(uint64_t key_len, size_t out_len, uint64_t answer, co
     in.input = sealed;
     compare_ways(&in, answer, what);
     tried += 2;
+    if (answer >> 32 == 0 || answer >> 32 >= CHECK_BOOK_LENGTH)
+        expect_pages(answer, what);
 }
 
 static void expect(uint64_t answer, const char *what)
@@ -340,7 +368,7 @@ static void check_zero_and_four(void)
 
 void check_edges(void)
 {
-    tried = 0;
+    tried = tried_pages = 0;
     random_fill(&random_source, key_bytes, sizeof key_bytes);
     check_lengths();
     check_sizes();
@@ -356,7 +384,7 @@ void check_edges(void)
     check_replicates();
     check_sheets_replicates();
     check_zero_and_four();
-    printf("edges: %u books with a stated answer, each by %d ways\n", tried, WAYS);
+    printf("edges: %u books with a stated answer, each by %d ways, and %u pages of them\n", tried, WAYS, tried_pages);
 }
 
 /* What a note's call is lent, and the check that answers. Where the way is 1, each way must answer so. */

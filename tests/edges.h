@@ -8,6 +8,10 @@ void check_edges(void);
 /* The edges of each check of a note, and each two that can fail at once. */
 void check_note_edges(void);
 
+/* Pages with the text stated, the edges of a page's own checks, and each two of
+ * its checks that can fail at once; the edges of a book's rules are above. */
+void check_pages(void);
+
 /* Ways, key lengths and counts as 64-bit numbers: none may be cut to its low
  * bits. */
 void check_wide_numbers(void);

@@ -1,5 +1,5 @@
 /*
- * The worked book and the worked note of docs/FORMAT.md: the fields, and the bytes against the library and the reference.
+ * The worked book, note and page of docs/FORMAT.md: the fields, and the bytes against the library and the reference.
  *
  *   format FORMAT.md KEY.hex
  */
@@ -140,7 +140,8 @@ static void expect_encrypted(const char *what, const reference_key *key, const u
     expect_bytes(what, encrypted, due, REFERENCE_BLOCK);
 }
 
-static void check_book(const byte_row *key, const reference_key *expanded)
+/* Answers the clear book. */
+static byte_row check_book(const byte_row *key, const reference_key *expanded)
 {
     byte_row clear = read_book(clear_fields + CONTENTS_FIELDS, CLEAR_FIELDS - CONTENTS_FIELDS);
     byte_row block = read_bytes(find_line("    block "));
@@ -154,6 +155,7 @@ static void check_book(const byte_row *key, const reference_key *expanded)
         chained[i] = clear.bytes[28 + i] ^ clear.bytes[12 + i];
     expect_bytes("block", block.bytes, chained, REFERENCE_BLOCK);
     expect_encrypted("sealed record", expanded, block.bytes, sealed.bytes + 28);
+    return clear;
 }
 
 /* One of the note's counter blocks, and it encrypted. */
@@ -185,9 +187,31 @@ static void check_note(const byte_row *key, const reference_key *expanded)
     expect_bytes("rest of the sealed note", sealed.bytes + REFERENCE_BLOCK, last_output(), in.out_len);
 }
 
+/* The page of the worked book: two lines as text, and then each as bytes. */
+static void check_page(const byte_row *clear)
+{
+    static const char *const names[] = {"    heading ", "    record "};
+    uint8_t due[2 * LINE_LENGTH];
+    call_input in = {CALL_PAGE, NULL, 0, 0, clear->bytes, BOOK_BYTES, sizeof due, NULL, 0, 0};
+    compare_stated(&in, 2, "worked page");
+    memcpy(due, last_output(), sizeof due);
+    for (size_t i = 0; i < 2; i++) {
+        const char *text = find_line("    ");
+        if (strlen(text) != LINE_LENGTH)
+            fail("a line of the worked page has %zu characters", strlen(text));
+        expect_bytes("line of the worked page", (const uint8_t *)text, due + LINE_LENGTH * i, LINE_LENGTH);
+    }
+    for (size_t i = 0; i < 2; i++) {
+        byte_row row = read_bytes(find_line(names[i]));
+        if (row.len != LINE_LENGTH)
+            fail("a line of the worked page has %zu bytes", row.len);
+        expect_bytes("bytes of the worked page", row.bytes, due + LINE_LENGTH * i, LINE_LENGTH);
+    }
+}
+
 int main(int argc, char **argv)
 {
-    byte_row key;
+    byte_row key, clear;
     reference_key expanded;
     start_test("format", 1, argv);
     if (argc != 3 || (page = fopen(argv[1], "r")) == NULL)
@@ -197,10 +221,12 @@ int main(int argc, char **argv)
     if (key.len != 16 || memcmp(key.bytes, read_key_file(argv[2]).bytes, 16) != 0)
         fail("the key is not that of %s, or not 16 bytes long", argv[2]);
     reference_expand_key(&expanded, key.bytes, key.len);
-    check_book(&key, &expanded);
+    clear = check_book(&key, &expanded);
     find_line("## A worked note");
     check_note(&key, &expanded);
-    printf("format: passed: the worked book, %d fields and two times %d bytes, and the worked note\n",
+    find_line("## A worked page");
+    check_page(&clear);
+    printf("format: passed: the worked book, %d fields and two times %d bytes, the worked note and the worked page\n",
            CLEAR_FIELDS + SEALED_FIELDS, BOOK_BYTES);
     return 0;
 }

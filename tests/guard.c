@@ -101,7 +101,7 @@ static void compare_room(const call_input *in, const fenced *out, const uint8_t 
 static verdict fenced_call(const call_input *in, placement where, int output_access)
 {
     static uint8_t expected[MAX_OUTPUT + 2 * 65536];
-    size_t key_len = in->kind == CALL_CONSTANTS ? 0 : in->key_len;
+    size_t key_len = call_has_key(in->kind) ? in->key_len : 0;
     fenced key = fenced_input(in->key, key_len, where);
     fenced counter = fenced_input(in->counter, in->counter_len, where);
     fenced input = fenced_input(in->input, in->input_len, where);
@@ -142,24 +142,28 @@ static void guard_case(const test_case *c)
 }
 
 /* A valid case with every length that its key, counter block, input or output
- * can be given, up to a little above the right one. */
+ * can be given, and every sheet, up to a little above the right one. */
 static void guard_lengths(call_kind kind, uint64_t way)
 {
     static test_case c;
     call_input right;
     do
         make_case(&random_source, kind, 0, &c);
-    while (call_keeps_length(kind) && (c.in.input_len < 50 || c.in.input_len > 300));
+    while (call_is_long(kind) && (c.in.input_len < 50 || c.in.input_len > 300));
     c.in.way = way;
     right = c.in;
-    for (c.in.key_len = 0; c.in.key_len <= MAX_KEY; c.in.key_len++)
-        guard_case(&c);
+    if (kind != CALL_PAGE)
+        for (c.in.key_len = 0; c.in.key_len <= MAX_KEY; c.in.key_len++)
+            guard_case(&c);
     c.in = right;
     for (c.in.out_len = 0; c.in.out_len <= right.out_len + 20; c.in.out_len++)
         guard_case(&c);
     c.in = right;
     if (kind == CALL_CRYPT_NOTE)
         for (c.in.counter_len = 0; c.in.counter_len <= MAX_COUNTER; c.in.counter_len++)
+            guard_case(&c);
+    if (kind == CALL_PAGE)
+        for (c.in.sheet = 0; c.in.sheet <= MAX_SHEETS + 1; c.in.sheet++)
             guard_case(&c);
     if (!call_has_input(kind))
         return;
@@ -180,6 +184,22 @@ static void guard_long_notes(void)
             c.in.input_len = c.in.out_len = len;
             guard_case(&c);
         }
+}
+
+/* The longest pages, of the longest book and of the longest sheet alone; and with a sheet index whose entry would be far away. */
+static void guard_long_pages(void)
+{
+    static const book_shape shapes[] = {{5, {1, 1015, 1024, 1024, 1024}}, {1, {MAX_RECORDS}}};
+    static test_case c;
+    for (size_t i = 0; i < sizeof shapes / sizeof shapes[0]; i++) {
+        size_t len = make_clear_book(&random_source, &shapes[i], c.input);
+        c.in = (call_input){CALL_PAGE, NULL, 0, 0, c.input, len, MAX_PAGE_LENGTH, NULL, 0, shapes[i].sheets - 1};
+        guard_case(&c);
+        c.in.sheet = shapes[i].sheets;
+        guard_case(&c);
+        c.in.sheet = UINT64_MAX / ENTRY_LENGTH;
+        guard_case(&c);
+    }
 }
 
 static void guard_calls(void)
@@ -206,11 +226,18 @@ static void guard_calls(void)
             guard_lengths((call_kind)kind, way);
     }
     guard_long_notes();
+    guard_long_pages();
     printf("guard: %" PRIu64 " accepted and %" PRIu64 " refused calls between guard pages\n", accepted, refused);
 }
 
 /* Answers that are stated here, for memory that the reference is not asked about. */
 static unsigned stated;
+
+/* A clear book: trial 1, one record, in reserve. */
+static const uint8_t one_record[] = {
+    1, 0, 0, 1, 0, 0, 0, 1, 0, 1, 0, 0, 0, 0, 0, 0, 0, 0, 0, 0, 0, 0, 0, 0, 0, 0, 0, 0,
+    0, 0, 0, 1, 0, 0, 0, 1, 1, 0, 0, 0, 0, 0, 0, 0,
+};
 
 static void expect(const call_input *in, uint8_t *out, int check, const char *what)
 {
@@ -253,6 +280,11 @@ static void null_pointers(void)
         expect(&(call_input){CALL_CRYPT_NOTE, key, 16, way, NULL, 0, 0, block, 16}, NULL, 0, "null note and output");
         expect(&(call_input){CALL_CRYPT_NOTE, NULL, 0, way, NULL, 0, 0, NULL, 0}, NULL, 1, "all null");
     }
+    book[0] = CLEAR_BOOK;
+    expect(&(call_input){CALL_PAGE, NULL, 0, 0, NULL, 0, 64}, out, 5, "null book");
+    expect(&(call_input){CALL_PAGE, NULL, 0, 0, NULL, 0, 0}, NULL, 5, "null book and output");
+    expect(&(call_input){CALL_PAGE, NULL, 0, 0, book, 4, 0}, NULL, 13, "null output");
+    expect(&(call_input){CALL_PAGE, NULL, 0, 0, one_record, sizeof one_record, 0}, NULL, 4, "null output");
     for (size_t i = 0; i < sizeof out; i++)
         if (out[i] != 0)
             fail("a call with a null pointer changed output byte %zu", i);
@@ -295,6 +327,9 @@ static void wide_lengths(void)
         expect(&(call_input){CALL_CRYPT_NOTE, key, 16, way, m, wide + 16, wide + 16, block, 16}, m, 12,
                "wide note and output");
     }
+    expect(&(call_input){CALL_PAGE, NULL, 0, 0, m, wide + 4, 64}, m, 5, "wide book");
+    expect(&(call_input){CALL_PAGE, NULL, 0, 0, one_record, sizeof one_record, wide + 64}, m, 4, "wide output");
+    expect(&(call_input){CALL_PAGE, NULL, 0, 0, one_record, sizeof one_record, 64, NULL, 0, wide}, m, 13, "wide sheet");
     munmap(m, mapped);
     printf("guard: %u calls with lengths above 2^32\n", stated);
 }

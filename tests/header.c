@@ -47,6 +47,8 @@ static void check_lengths(void)
     EXPECT(PLANBOOK_MAX_NOTE_BYTES, MAX_NOTE_LENGTH);
     EXPECT(PLANBOOK_COUNTER_BYTES, COUNTER_LENGTH);
     EXPECT(PLANBOOK_COUNTER_PREFIX_BYTES, COUNTER_PREFIX_LENGTH);
+    EXPECT(PLANBOOK_LINE_BYTES, LINE_LENGTH);
+    EXPECT(PLANBOOK_MAX_PAGE_BYTES, MAX_PAGE_LENGTH);
     EXPECT(PLANBOOK_CLEAR, CLEAR_BOOK);
     EXPECT(PLANBOOK_SEALED, SEALED_BOOK);
     EXPECT(PLANBOOK_WIPE_STACK, 1);
@@ -71,6 +73,7 @@ static void check_numbers(void)
     EXPECT(PLANBOOK_CHECK_BODY_LENGTH, CHECK_LENGTH);
     EXPECT(PLANBOOK_CHECK_RECORD, CHECK_RECORD);
     EXPECT(PLANBOOK_CHECK_NOTE_LENGTH, CHECK_NOTE_LENGTH);
+    EXPECT(PLANBOOK_CHECK_SHEET_INDEX, CHECK_SHEET_INDEX);
 }
 
 static void check_helpers(void)
@@ -88,12 +91,87 @@ static void check_helpers(void)
                    strcmp(planbook_check_sentence(a), planbook_check_sentence(b)) == 0, 0);
 }
 
+/* The contents of 64 sheets, of which each entry has the record count that is looked at, and room for two more. */
+enum { CONTENTS_LENGTH = HEAD_LENGTH + ENTRY_LENGTH * MAX_SHEETS };
+static uint8_t contents[CONTENTS_LENGTH + 2 * ENTRY_LENGTH];
+
+static void expect_page_length(size_t book_len, uint64_t sheet, size_t due)
+{
+    char name[120];
+    snprintf(name, sizeof name, "planbook_page_length of sheet %lu in %lu bytes", (unsigned long)sheet,
+             (unsigned long)book_len);
+    expect(name, planbook_page_length(contents, book_len, sheet), due);
+}
+
+static void put_count(size_t sheet, unsigned count)
+{
+    uint8_t *entry = contents + HEAD_LENGTH + ENTRY_LENGTH * sheet;
+    entry[4] = (uint8_t)(count >> 8);
+    entry[5] = (uint8_t)count;
+}
+
+/* Record counts, those that no sheet may have too. */
+static void check_counts(void)
+{
+    static const unsigned counts[][2] = { /* the count, and the length due */
+        {0, 32}, {1, 64}, {2, 96}, {255, 8192}, {256, 8224}, {1023, 32768}, {1024, 32800},
+        {1025, 0}, {1026, 0}, {1280, 0}, {2047, 0}, {2048, 0}, {32768, 0}, {65535, 0},
+    };
+    for (size_t i = 0; i < sizeof counts / sizeof counts[0]; i++) {
+        put_count(0, counts[i][0]);
+        put_count(63, counts[i][0]);
+        expect_page_length(CONTENTS_LENGTH, 0, counts[i][1]);
+        expect_page_length(CONTENTS_LENGTH, 63, counts[i][1]);
+    }
+}
+
+/* The number of sheets stands in the head: an index that is not below it has no page, whatever stands where its entry would be. */
+static void check_sheet_numbers(void)
+{
+    for (size_t n = 0; n <= MAX_SHEETS; n++) {
+        contents[3] = (uint8_t)n;
+        expect_page_length(sizeof contents, n, 0);
+        if (n > 0)
+            expect_page_length(sizeof contents, n - 1, LINE_LENGTH * (n + 1));
+    }
+    contents[2] = 1; /* 256 sheets, which no book has */
+    contents[3] = 0;
+    expect_page_length(sizeof contents, 63, LINE_LENGTH * 65);
+    expect_page_length(sizeof contents, 64, 0);
+}
+
+static void check_page_length(void)
+{
+    static const uint64_t beyond[] = {
+        64, 65, 256, 65536, UINT32_MAX, (uint64_t)1 << 32, ((uint64_t)1 << 32) + 63, (uint64_t)1 << 61, UINT64_MAX,
+    }; /* 24 times 2^61 is 0 in 64 bits */
+    contents[0] = CLEAR_BOOK;
+    contents[3] = MAX_SHEETS;
+    check_counts();
+    for (size_t i = 0; i < MAX_SHEETS; i++)
+        put_count(i, (unsigned)i + 1);
+    for (size_t i = 0; i < MAX_SHEETS; i++) {
+        size_t end = HEAD_LENGTH + ENTRY_LENGTH * (i + 1);
+        expect_page_length(CONTENTS_LENGTH, i, LINE_LENGTH * (i + 2));
+        expect_page_length(end, i, LINE_LENGTH * (i + 2));
+        expect_page_length(end - 1, i, 0);
+        expect_page_length(HEAD_LENGTH, i, 0);
+    }
+    for (size_t i = 0; i < sizeof beyond / sizeof beyond[0]; i++)
+        expect_page_length(sizeof contents, beyond[i], 0);
+    for (size_t len = 0; len < HEAD_LENGTH; len++)
+        expect_page_length(len, 0, 0);
+    expect("planbook_page_length of no bytes", planbook_page_length(NULL, 0, 0), 0);
+    check_sheet_numbers();
+}
+
 int main(void)
 {
     check_lengths();
     check_numbers();
     check_helpers();
+    check_page_length();
     if (!wrong)
-        printf("header: passed: lengths, ways, checks and helpers\n");
+        printf("header: passed: lengths, ways, checks and helpers, that of a page's length among them\n");
     return wrong;
 }

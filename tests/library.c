@@ -15,6 +15,8 @@ uint64_t library_call(const call_input *in, uint8_t *out)
     case CALL_CRYPT_NOTE:
         return planbook_crypt_note(in->key, in->key_len, in->way, in->counter, in->counter_len, in->input, in->input_len,
                                    out, in->out_len);
+    case CALL_PAGE:
+        return planbook_page(in->input, in->input_len, in->sheet, out, in->out_len);
     case CALL_ENCRYPT_BOOK:
         return planbook_encrypt_book(in->key, in->key_len, in->way, in->input, in->input_len, out, in->out_len);
     default:

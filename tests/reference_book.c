@@ -17,9 +17,14 @@ static size_t load_half(const uint8_t *bytes)
 const char *call_name(call_kind kind)
 {
     static const char *const names[CALLS] = {
-        "constants", "expand key", "encrypt block", "decrypt block", "encrypt book", "decrypt book", "crypt note",
+        "constants", "expand key", "encrypt block", "decrypt block", "encrypt book", "decrypt book", "crypt note", "page",
     };
     return names[kind];
+}
+
+int call_has_key(call_kind kind)
+{
+    return kind != CALL_CONSTANTS && kind != CALL_PAGE;
 }
 
 int call_is_block(call_kind kind)
@@ -29,67 +34,22 @@ int call_is_block(call_kind kind)
 
 int call_is_book(call_kind kind)
 {
-    return kind == CALL_ENCRYPT_BOOK || kind == CALL_DECRYPT_BOOK;
+    return kind == CALL_ENCRYPT_BOOK || kind == CALL_DECRYPT_BOOK || kind == CALL_PAGE;
 }
 
-int call_keeps_length(call_kind kind)
+int call_is_long(call_kind kind)
 {
     return call_is_book(kind) || kind == CALL_CRYPT_NOTE;
 }
 
 int call_has_input(call_kind kind)
 {
-    return call_is_block(kind) || call_keeps_length(kind);
+    return call_is_block(kind) || call_is_long(kind);
 }
 
-/* Checks 1 to 4, and 12. */
-
-static int key_length_permitted(uint64_t len)
+int check_place(call_kind kind, int check)
 {
-    return len == 16 || len == 24 || len == 32;
-}
-
-static size_t words_for(call_kind kind, uint64_t key_len)
-{
-    if (kind == CALL_CONSTANTS)
-        return key_len == 16 ? 60 : key_len == 24 ? 84 : key_len == 32 ? 92 : 0;
-    return key_len == 16 ? 40 : key_len == 24 ? 48 : key_len == 32 ? 56 : 0;
-}
-
-size_t reference_output_length(const call_input *in)
-{
-    if (call_keeps_length(in->kind))
-        return in->input_len;
-    if (call_is_block(in->kind))
-        return REFERENCE_BLOCK;
-    return 4 * words_for(in->kind, in->key_len);
-}
-
-static int output_length_wrong(const call_input *in)
-{
-    size_t len = in->out_len;
-    if (call_has_input(in->kind) || key_length_permitted(in->key_len))
-        return len != reference_output_length(in);
-    return len != 4 * words_for(in->kind, 16) && len != 4 * words_for(in->kind, 24) &&
-           len != 4 * words_for(in->kind, 32);
-}
-
-static unsigned failing_without_book(const call_input *in)
-{
-    unsigned failing = 0;
-    if (!key_length_permitted(in->key_len))
-        failing |= bit(CHECK_KEY);
-    if (in->kind != CALL_CONSTANTS && in->way != 1 && in->way != 2 && in->way != 3)
-        failing |= bit(CHECK_WAY);
-    if (call_is_block(in->kind) && in->input_len != REFERENCE_BLOCK)
-        failing |= bit(CHECK_BLOCK_LENGTH);
-    if (in->kind == CALL_CRYPT_NOTE && in->counter_len != COUNTER_LENGTH)
-        failing |= bit(CHECK_BLOCK_LENGTH);
-    if (output_length_wrong(in))
-        failing |= bit(CHECK_OUTPUT_LENGTH);
-    if (in->kind == CALL_CRYPT_NOTE && in->input_len > MAX_NOTE_LENGTH)
-        failing |= bit(CHECK_NOTE_LENGTH);
-    return failing;
+    return kind == CALL_PAGE && check == CHECK_OUTPUT_LENGTH ? LAST_CHECK + 1 : check;
 }
 
 /* What can be read of a book, whatever is wrong with it. */
@@ -125,6 +85,78 @@ static book_view view_book(const uint8_t *bytes, size_t len)
     for (size_t i = 0; i < book.entries; i++)
         book.records += count_of(&book, i);
     return book;
+}
+
+/* Checks 1 to 4, and 12. */
+
+static int key_length_permitted(uint64_t len)
+{
+    return len == 16 || len == 24 || len == 32;
+}
+
+static size_t words_for(call_kind kind, uint64_t key_len)
+{
+    if (kind == CALL_CONSTANTS)
+        return key_len == 16 ? 60 : key_len == 24 ? 84 : key_len == 32 ? 92 : 0;
+    return key_len == 16 ? 40 : key_len == 24 ? 48 : key_len == 32 ? 56 : 0;
+}
+
+/* A heading, and a line for each record. */
+static size_t page_length(const call_input *in)
+{
+    book_view book;
+    if (in->input_len < HEAD_LENGTH)
+        return 0;
+    book = view_book(in->input, in->input_len);
+    if (in->sheet >= book.entries || count_of(&book, in->sheet) > MAX_RECORDS)
+        return 0;
+    return LINE_LENGTH * (1 + count_of(&book, in->sheet));
+}
+
+size_t reference_output_length(const call_input *in)
+{
+    if (in->kind == CALL_PAGE)
+        return page_length(in);
+    if (call_is_long(in->kind))
+        return in->input_len;
+    if (call_is_block(in->kind))
+        return REFERENCE_BLOCK;
+    return 4 * words_for(in->kind, in->key_len);
+}
+
+/* Two lines are the least, since no sheet is empty. */
+static int page_may_have_length(size_t len)
+{
+    return len % LINE_LENGTH == 0 && len >= 2 * LINE_LENGTH && len <= MAX_PAGE_LENGTH;
+}
+
+static int output_length_wrong(const call_input *in)
+{
+    size_t len = in->out_len;
+    if (in->kind == CALL_PAGE && page_length(in) == 0)
+        return !page_may_have_length(len);
+    if (call_has_input(in->kind) || key_length_permitted(in->key_len))
+        return len != reference_output_length(in);
+    return len != 4 * words_for(in->kind, 16) && len != 4 * words_for(in->kind, 24) &&
+           len != 4 * words_for(in->kind, 32);
+}
+
+static unsigned failing_without_book(const call_input *in)
+{
+    unsigned failing = 0;
+    if (in->kind != CALL_PAGE && !key_length_permitted(in->key_len))
+        failing |= bit(CHECK_KEY);
+    if (call_has_key(in->kind) && in->way != 1 && in->way != 2 && in->way != 3)
+        failing |= bit(CHECK_WAY);
+    if (call_is_block(in->kind) && in->input_len != REFERENCE_BLOCK)
+        failing |= bit(CHECK_BLOCK_LENGTH);
+    if (in->kind == CALL_CRYPT_NOTE && in->counter_len != COUNTER_LENGTH)
+        failing |= bit(CHECK_BLOCK_LENGTH);
+    if (output_length_wrong(in))
+        failing |= bit(CHECK_OUTPUT_LENGTH);
+    if (in->kind == CALL_CRYPT_NOTE && in->input_len > MAX_NOTE_LENGTH)
+        failing |= bit(CHECK_NOTE_LENGTH);
+    return failing;
 }
 
 /* Books of past seasons have 0 in this byte, and replicates up to 4. */
@@ -241,11 +273,39 @@ void reference_encrypt_bodies(const reference_key *key, const uint8_t *bytes, si
     }
 }
 
-/* Checks 5 to 11. */
+/* The planting page of a sheet; the count is its lines. A page is asked for only where no check fails. */
+
+static void write_line(const uint8_t *record, uint8_t *out)
+{
+    char text[64];
+    int len = snprintf(text, sizeof text, "%10lu %10lu %1u %3u %3u\n", (unsigned long)reference_load_word(record),
+                       (unsigned long)reference_load_word(record + 4), record[8], (unsigned)load_half(record + 9),
+                       (unsigned)load_half(record + 11));
+    if (len != LINE_LENGTH) {
+        fprintf(stderr, "reference: a line of %d bytes\n", len);
+        exit(2);
+    }
+    memcpy(out, text, LINE_LENGTH);
+}
+
+static uint64_t write_page(const book_view *book, size_t sheet, uint8_t *out)
+{
+    static const char heading[] = "     TRIAL      ENTRY R ROW COL\n";
+    const uint8_t *record = book->bytes + contents_end(book);
+    size_t count = count_of(book, sheet);
+    for (size_t i = 0; i < sheet; i++)
+        record += RECORD_LENGTH * count_of(book, i);
+    memcpy(out, heading, LINE_LENGTH);
+    for (size_t j = 0; j < count; j++)
+        write_line(record + RECORD_LENGTH * j, out + LINE_LENGTH * (j + 1));
+    return count + 1;
+}
+
+/* Checks 5 to 11, and 13. */
 
 static unsigned failing_head(const call_input *in)
 {
-    unsigned permitted = in->kind == CALL_ENCRYPT_BOOK ? CLEAR_BOOK : SEALED_BOOK;
+    unsigned permitted = in->kind == CALL_DECRYPT_BOOK ? SEALED_BOOK : CLEAR_BOOK;
     unsigned failing = 0;
     if (in->input_len < HEAD_LENGTH || in->input_len > MAX_BOOK_LENGTH)
         failing |= bit(CHECK_BOOK_LENGTH);
@@ -254,9 +314,11 @@ static unsigned failing_head(const call_input *in)
     return failing;
 }
 
-static unsigned failing_contents(const book_view *book)
+static unsigned failing_contents(const call_input *in, const book_view *book)
 {
     unsigned failing = 0;
+    if (in->kind == CALL_PAGE && in->sheet >= book->sheets)
+        failing |= bit(CHECK_SHEET_INDEX);
     if (book->sheets > MAX_SHEETS)
         failing |= bit(CHECK_SHEET_NUMBER);
     if (book->len < contents_end(book))
@@ -278,29 +340,39 @@ static uint8_t *allocate(size_t len)
     return bytes;
 }
 
+/* What the book becomes. clear is a copy of it in which the records are decrypted already. Answers the count. */
+static uint64_t write_book(const call_input *in, const book_view *book, const reference_key *key, const uint8_t *clear,
+                           uint8_t *out)
+{
+    if (in->kind == CALL_PAGE)
+        return write_page(book, in->sheet, out);
+    if (in->kind == CALL_ENCRYPT_BOOK)
+        reference_encrypt_bodies(key, book->bytes, book->len, out);
+    else
+        memcpy(out, clear, book->len);
+    out[0] = in->kind == CALL_ENCRYPT_BOOK ? SEALED_BOOK : CLEAR_BOOK;
+    return book->records;
+}
+
 /* The verdict on a book whose head is there; failing are the checks that
  * were seen to fail before. */
 static verdict book_verdict(const call_input *in, unsigned failing, uint8_t *out)
 {
     book_view book = view_book(in->input, in->input_len);
-    uint8_t *after = allocate(book.len);
-    verdict v = {failing | failing_contents(&book), book.records};
-    int encrypting = in->kind == CALL_ENCRYPT_BOOK;
-    int has_key = key_length_permitted(in->key_len);
+    uint8_t *clear = allocate(book.len);
+    verdict v = {failing | failing_contents(in, &book), 0};
+    int decrypting = in->kind == CALL_DECRYPT_BOOK;
+    int has_key = call_has_key(in->kind) && key_length_permitted(in->key_len);
     reference_key key;
 
     if (has_key)
         reference_expand_key(&key, in->key, in->key_len);
-    memcpy(after, book.bytes, book.len);
-    if ((encrypting || has_key) && some_record_breaks_rule(&book, encrypting ? NULL : &key, after))
+    memcpy(clear, book.bytes, book.len);
+    if ((!decrypting || has_key) && some_record_breaks_rule(&book, decrypting ? &key : NULL, clear))
         v.failing |= bit(CHECK_RECORD);
-    if (v.failing == 0) {
-        if (encrypting)
-            reference_encrypt_bodies(&key, book.bytes, book.len, after);
-        after[0] = encrypting ? SEALED_BOOK : CLEAR_BOOK;
-        memcpy(out, after, book.len);
-    }
-    free(after);
+    if (v.failing == 0)
+        v.answer = write_book(in, &book, &key, clear, out);
+    free(clear);
     return v;
 }
 
@@ -360,12 +432,13 @@ static uint64_t accepted(const call_input *in, uint8_t *out)
     }
 }
 
-static uint64_t answer_of(unsigned failing, uint64_t count)
+static uint64_t answer_of(call_kind kind, unsigned failing, uint64_t count)
 {
+    int first = 0;
     for (int check = 1; check <= LAST_CHECK; check++)
-        if (failing & bit(check))
-            return (uint64_t)check << 32;
-    return count;
+        if ((failing & bit(check)) && (first == 0 || check_place(kind, check) < check_place(kind, first)))
+            first = check;
+    return first == 0 ? count : (uint64_t)first << 32;
 }
 
 verdict reference_call(const call_input *in, uint8_t *out)
@@ -378,6 +451,6 @@ verdict reference_call(const call_input *in, uint8_t *out)
     } else if (v.failing == 0) {
         v.answer = accepted(in, out);
     }
-    v.answer = answer_of(v.failing, v.answer);
+    v.answer = answer_of(in->kind, v.failing, v.answer);
     return v;
 }

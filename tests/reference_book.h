@@ -1,23 +1,26 @@
 /*
- * The rules of the calls, of the plan book and of the notes, written a second
- * time.
+ * The rules of the calls, of the plan book, of the notes and of the planting
+ * pages, written a second time.
  *
  * The library stops at the first check that fails. Here every check is judged
- * by itself, and the answer is the lowest number that fails: the two can agree
- * only if the order of the checks is right too.
+ * by itself, and the answer is the first in the call's order that fails: the
+ * two can agree only if the order of the checks is right too.
  *
  * A check that reads bytes is judged on those that are there:
  *   1 to 5   always, in the calls that have them, and so is 12; 4 fails beside
- *            a wrong key length if the output fits none of the permitted ones;
+ *            a wrong key length if the output fits none of the permitted ones,
+ *            and beside a sheet whose record count is not there or not
+ *            permitted if no page is as long as the output;
  *   6        if a byte that is there shows it;
  *   7, 8     if the head is there;
  *   9        if some entry that lies whole in the book is broken;
  *   10       if the head is there; R is summed over the entries that are there;
  *   11       if the contents are whole; each record that lies whole in the book
  *            is held against the entry whose count reaches it. When decrypting
- *            it needs a key of a permitted length.
+ *            it needs a key of a permitted length;
+ *   13       if the head is there.
  * Two checks fail together on an input if both fail in this sense. The test
- * counts such a pair where the lower of the two is the answer.
+ * counts such a pair where the earlier of the two is the answer.
  */
 #ifndef REFERENCE_BOOK_H
 #define REFERENCE_BOOK_H
@@ -37,7 +40,8 @@ enum {
     CHECK_LENGTH,
     CHECK_RECORD,
     CHECK_NOTE_LENGTH,
-    LAST_CHECK = CHECK_NOTE_LENGTH
+    CHECK_SHEET_INDEX,
+    LAST_CHECK = CHECK_SHEET_INDEX
 };
 
 enum {
@@ -61,6 +65,8 @@ enum {
     COUNTER_PREFIX_LENGTH = 12 /* the bytes that do not count */
 };
 
+enum { LINE_LENGTH = 32, MAX_PAGE_LENGTH = LINE_LENGTH * (MAX_RECORDS + 1) };
+
 typedef enum {
     CALL_CONSTANTS,
     CALL_EXPAND_KEY,
@@ -69,18 +75,19 @@ typedef enum {
     CALL_ENCRYPT_BOOK,
     CALL_DECRYPT_BOOK,
     CALL_CRYPT_NOTE,
+    CALL_PAGE,
     CALLS
 } call_kind;
 
 /* Calls without a counter block are written down without its two fields, which
- * are then null and 0. */
+ * are then null and 0, and those without a sheet without that. */
 #ifdef __GNUC__
 #pragma GCC diagnostic ignored "-Wmissing-field-initializers"
 #endif
 
 /* What is lent in one call. Constants have no key, way or input; key_len is
  * then the number that is given in its place. Only a note has a counter block;
- * the note itself is the input. */
+ * the note itself is the input. Only a page has a sheet, and no key or way. */
 typedef struct {
     call_kind kind;
     const uint8_t *key;
@@ -91,6 +98,7 @@ typedef struct {
     size_t out_len;
     const uint8_t *counter;
     size_t counter_len;
+    uint64_t sheet;
 } call_input;
 
 typedef struct {
@@ -99,13 +107,19 @@ typedef struct {
 } verdict;
 
 const char *call_name(call_kind kind);
-int call_is_book(call_kind kind);
+int call_has_key(call_kind kind); /* the bytes of a key, and a way */
 int call_is_block(call_kind kind);
+int call_is_book(call_kind kind); /* the input is a book */
+int call_is_long(call_kind kind); /* it is a book or a note */
 int call_has_input(call_kind kind);
-int call_keeps_length(call_kind kind); /* the output is as long as the input */
+
+/* Where a check stands in a call's order: at its number; but 4 comes last in a
+ * page, whose length the book says. */
+int check_place(call_kind kind, int check);
 
 /* The bytes of output that a call asks for where its other lengths are right;
- * 0 where the key length is not permitted and decides it. */
+ * 0 where the key length is not permitted and decides it, or where the sheet's
+ * record count does and is not there or not permitted. */
 size_t reference_output_length(const call_input *in);
 
 /* The number of replicates that an entry gives its sheet, within the limit or

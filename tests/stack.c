@@ -1,8 +1,8 @@
 /*
  * What a call leaves behind on the stack, and how much of it a call uses. Each call is made on a stack of its own, which is
  * then searched for the words of the key, of the expanded key, of the clear block, record or note, and of the encrypted
- * counter blocks, which open the sealed note: after planbook_wipe_stack there must be none; without it there must be some, or
- * this test could not fail.
+ * counter blocks, which open the sealed note: after planbook_wipe_stack there must be none; without it there must be some where
+ * there is a key, or this test could not fail.
  *
  *   stack [SEED]
  */
@@ -142,7 +142,7 @@ static void make_book_input(void)
     reference_key expanded;
     in.input_len = make_book(clear);
     memcpy(input, clear, in.input_len);
-    if (in.kind == CALL_ENCRYPT_BOOK)
+    if (in.kind != CALL_DECRYPT_BOOK)
         return;
     reference_expand_key(&expanded, key, in.key_len);
     reference_encrypt_bodies(&expanded, clear, in.input_len, input);
@@ -183,7 +183,7 @@ static void make_call(call_kind kind, uint64_t way, uint64_t key_len)
     if (kind == CALL_CRYPT_NOTE)
         make_note_input();
     in.out_len = reference_output_length(&in);
-    if (kind == CALL_CONSTANTS)
+    if (!call_has_key(kind))
         return;
     add_secrets(key, key_len);
     add_expanded_key();
@@ -217,7 +217,7 @@ static void try_call(int accepted)
 {
     size_t left = words_left(0, accepted);
     note_depth();
-    if (in.kind != CALL_CONSTANTS) {
+    if (call_has_key(in.kind)) {
         if (left == 0)
             fail_call(&in, "stack", "no secret is found without the wipe: this test cannot fail");
         least_left = left < least_left ? left : least_left;
@@ -235,7 +235,7 @@ int main(int argc, char **argv)
             for (uint64_t key_len = 16; key_len <= 32; key_len += 8) {
                 make_call((call_kind)kind, way, key_len);
                 try_call(1);
-                in.out_len--; /* check 4, which is made when the key is expanded already */
+                in.out_len--; /* check 4, which is made when the key is expanded already, and for a page last of all */
                 try_call(0);
             }
     printf("stack: at most %zu bytes used by a call; at least %zu secret words left where there is a key, none after the wipe\n",

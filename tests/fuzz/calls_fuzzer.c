@@ -65,11 +65,11 @@ static void change_case(recipe *r, test_case *c)
     call_input *in = &c->in;
     size_t contents = in->input_len < 100 ? in->input_len : 100; /* of a book, head and first entries */
     uint64_t place;
-    switch (take(r, 1) % 10) {
+    switch (take(r, 1) % 11) {
     case 0: in->way = take(r, 8); break;
     case 1: in->out_len = changed_length(r, in->out_len, MAX_INPUT); break;
     case 2: in->input_len = changed_length(r, in->input_len, MAX_INPUT); break;
-    case 3: in->key_len = in->kind == CALL_CONSTANTS ? take(r, 8) : changed_length(r, in->key_len, MAX_KEY); break;
+    case 3: in->key_len = call_has_key(in->kind) ? changed_length(r, in->key_len, MAX_KEY) : take(r, 8); break;
     case 4: in->out_len = reference_output_length(in); break;
     case 5:
         place = take(r, 1);
@@ -87,6 +87,7 @@ static void change_case(recipe *r, test_case *c)
         place = take(r, 1);
         change_byte(c->counter, in->counter_len, place, take(r, 1));
         break;
+    case 9: in->sheet = take(r, 1) % 2 == 0 ? take(r, 1) : take(r, 8); break;
     default:
         place = take(r, 2);
         change_byte(c->input, in->input_len, place, take(r, 1));
@@ -94,7 +95,7 @@ static void change_case(recipe *r, test_case *c)
     }
 }
 
-/* The rest of the recipe in place of the input; the output of a book or a note follows in length. */
+/* The rest of the recipe in place of the input; the output of a book, a note or a page follows in length. */
 static void give_input(recipe *r, test_case *c)
 {
     size_t len = r->len < MAX_INPUT ? r->len : MAX_INPUT;

@@ -1,5 +1,5 @@
-// The planting page of the first sheet of a clear book. The book comes from standard input, which is read to its end, and the page goes to
-// standard output. Of a book that is refused, or that has no sheets, nothing is written.
+// The planting page of the first sheet of a clear book. The book comes from standard input, which is read to its end or to the first byte that no book has
+// room for, and the page goes to standard output. Of a book that is refused, or that has no sheets, nothing is written.
 use libc::STDIN_FILENO;
 use libc::STDOUT_FILENO;
 use planbook::planbook_page;

@@ -13,9 +13,9 @@ fn digit(rest: usize) -> u8
     ensures { λ r. ⌜ r ≡ shownDigit rest ⌝ }
 {
     if rest == 0 {
-        return 32;
+        return b' ';
     }
-    48 + (rest % 10) as u8
+    b'0' + (rest % 10) as u8
 }
 
 // A number that fills all of its field, from the last digit on.
@@ -25,7 +25,7 @@ fn write_number(out: &mut [u8], n: usize)
 {
     let mut i = out.len() - 1;
     let mut rest = n / 10;
-    out[i] = 48 + (n % 10) as u8;
+    out[i] = b'0' + (n % 10) as u8;
     while 0 < i {
         i -= 1;
         out[i] = digit(rest);

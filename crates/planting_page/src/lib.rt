@@ -25,6 +25,7 @@ fn sheet_page(book: &[u8], sheet: usize, out: &mut [u8]) -> Answer
     Answer::Accepted(count as u64 + 1)
 }
 
+// Checks 5 to 11 of the whole book, for which nothing else is lent since it is clear; check 13; and what is left for the sheet.
 pub fn page(book: &[u8], sheet: u64, out: &mut [u8]) -> Answer
     ensures { λ r. ⌜ Given (pageCall (now (book .entry)) sheet (now (out .entry))) (now (out .entry)) r (now (out .exit)) ⌝ }
 {
