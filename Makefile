@@ -27,11 +27,11 @@ DEB_TREE := $(DEB)/planbook-$(VERSION)
 .DELETE_ON_ERROR:
 
 help:
-	@echo "make demo      build what is missing, then seal, label, open and show the plan in examples/, and a note"
+	@echo "make demo      build what is missing, then seal, label, open and show the plan in examples/, a note and a page"
 	@echo "make test      prove everything from nothing and run all tests; make check is the same"
 	@echo "make lib       the proved library, $(LIBRARY)"
 	@echo "make command   the command, $(COMMAND)"
-	@echo "make page      the proved program page, target/bin/page: the page of sheet 0 of the book on standard input"
+	@echo "make page      the program page, target/bin/page: the planting page of sheet 0 of the book on standard input"
 	@echo "make bench     measure the library beside plain C, into target/bench/ (bench-record: into docs/)"
 	@echo "make install   library, header, command, pkg-config file and manual pages below PREFIX=$(PREFIX)"
 	@echo "make uninstall remove what make install put there, given the same variables"

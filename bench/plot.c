@@ -88,7 +88,7 @@ enum { SHOWN_COUNT = sizeof SHOWN / sizeof SHOWN[0] };
 
 static void draw_ratios(FILE *f)
 {
-    static const char *const ways[BARS_MOST] = {"way 1, byte tables", "way 2, word tables", "way 3, by the rules", "no way"};
+    static const char *const ways[BARS_MOST] = {"way 1, byte tables", "way 2, word tables", "way 3, by the rules", "no key, so no way"};
     static const int colours[BARS_MOST] = {0, 1, 2, 3};
     const struct task *page = find_task(PAGE, LARGEST_SHEET, 0, 0);
     double page_ratio = median_ratio(page->ns[LIBRARY], page->ns[PLAIN]);
@@ -101,7 +101,7 @@ static void draw_ratios(FILE *f)
         }
     struct panel p = {f, TOP, 0, high, 0, SHOWN_COUNT + 1, 0, "%.2f"};
     text(f, LEFT, TOP - 26, "font-weight=\"bold\"",
-         "Time of the library over time of plain C (1 is equal, lower is faster), 16-byte key");
+         "Time of the library over time of plain C (1 is equal, lower is faster), 16-byte key; a page has none");
     for (double at = 0; at <= high; at += 0.5)
         line_at(&p, at, at == 1 ? "stroke=\"#333333\" stroke-dasharray=\"5 3\"" : "stroke=\"#dddddd\"");
     for (int i = 0; i < SHOWN_COUNT; i++)

@@ -178,8 +178,19 @@ static const char *sheet_of_trial(struct bytes book, uint64_t trial)
     return "";
 }
 
+/* What to do about a sealed book or a plan; whoever wants a page has no reason to know. */
+static void refuse_kind_for_page(const char *name, struct bytes book)
+{
+    if (book.at[0] == PLANBOOK_SEALED && book.at[1] == 0)
+        refuse(PLANBOOK_CHECK_BOOK_KIND, "%s is sealed, and a page needs a clear book: open it first", name);
+    if (is_plan(book))
+        refuse(PLANBOOK_CHECK_BOOK_KIND, "%s is text, and a page needs a clear book: planbook pack makes one of a plan", name);
+}
+
 void refuse_page(const char *name, struct bytes book, uint64_t sheet, uint32_t check)
 {
+    if (check == PLANBOOK_CHECK_BOOK_KIND)
+        refuse_kind_for_page(name, book);
     if (check != PLANBOOK_CHECK_SHEET_INDEX)
         refuse_clear_book(name, book, check);
     size_t sheets = sheet_count(book);

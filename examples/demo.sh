@@ -1,7 +1,7 @@
 #!/bin/sh
 # The main job from end to end, on the plan beside this script: a key, a plan sealed in one step, its digest compared, its labels,
-# the plan opened again; a note sealed and opened. Then the steps one by one, by every way and by the C program of the README, and
-# the planting page of a trial.
+# the plan opened again; a note sealed and opened. Then the steps one by one, the planting page of a trial, and the book sealed by every
+# way and by the C program of the README.
 # usage: demo.sh COMMAND PROGRAM FOLDER  (the command planbook, the program seal_book, a folder for the books)
 set -eu
 [ $# -eq 3 ] || { echo "usage: demo.sh COMMAND PROGRAM FOLDER" >&2; exit 2; }
@@ -71,7 +71,7 @@ echo "Sealed again, it is the same book, byte for byte."
 say "The planting page of trial 58, to be printed and pinned at its bench. Sheets are counted from 0: trial 41 has sheet 0, trial 58 sheet 1"
 run page --sheet 1 "$books/clear.book"
 
-say "It is sealed by each of the three ways, under an example key that is no secret"
+say "The clear book is sealed by each of the three ways, under an example key that is no secret"
 install -m 600 "$here/example-key-not-secret.hex" "$books/example-key-not-secret.hex"
 for way in 1 2 3; do
     run seal --key-hex "$books/example-key-not-secret.hex" --way $way "$books/clear.book" "$books/sealed-$way.book"

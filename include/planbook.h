@@ -1,5 +1,5 @@
 /*
- * planbook.h: sealing and opening plan books, and the notes beside them, with the block cipher CLEFIA.
+ * planbook.h: sealing and opening plan books, and the notes beside them, with the block cipher CLEFIA; planting pages.
  *
  * THE MODEL
  *
@@ -45,8 +45,9 @@
  * once, each with an output of its own. A call uses at most PLANBOOK_STACK_BYTES of stack and nothing from the heap.
  *
  * When a call with a key has returned, the key and all words of the expanded key still stand on the stack below the caller,
- * where no function's variable is. planbook_wipe_stack overwrites them. Call it in the function that made the call, when
- * the last call is made; buffers of the caller's own are the caller's to wipe.
+ * where no function's variable is. planbook_wipe_stack overwrites them, and what planbook_page may have left of the
+ * records. Call it in the function that made the call, when the last call is made; buffers of the caller's own are the
+ * caller's to wipe.
  *
  * OPEN ONLY BOOKS WHOSE ORIGIN YOU KNOW
  *
@@ -200,7 +201,7 @@ PLANBOOK_MUST_USE uint64_t planbook_constants(uint64_t key_length, uint8_t *out,
 
 /*
  * The expanded key (also "prepared key"): four whitening keys, then the round keys, as words of four bytes, highest
- * first. The other calls expand the key by themselves; this one is for callers that compare or archive expanded keys.
+ * first. The other calls with a key expand it by themselves; this one is for callers that compare or archive expanded keys.
  *
  *   key, key_len  the key, 16, 24 or 32 bytes
  *   way           PLANBOOK_WAY_..
@@ -279,7 +280,7 @@ PLANBOOK_MUST_USE uint64_t planbook_crypt_note(const uint8_t *key, size_t key_le
  * and a line for each record of the sheet, in the order of the book. Every line has 31 characters and a line feed (0a):
  * trial in 10, a space, entry in 10, a space, replicate in 1, a space, row in 3, a space, column in 3. Numbers are decimal,
  * at the right of their place and with spaces in front; row and column of a record in reserve are 0. Nothing ends the text
- * but the last line feed: there is no zero byte behind it. No key is needed, and so a page is as secret as the clear book.
+ * but the last line feed: there is no zero byte behind it. The page shows the records, so it is as secret as the clear book.
  *
  *   book, book_len  the clear book, as for planbook_encrypt_book; all of it is checked, not the sheet alone
  *   sheet           which sheet, counted from 0

@@ -372,6 +372,7 @@ static void compare_inputs(void)
         report_pairs((call_kind)kind);
     }
     printf("pairs, any call: 3 or 12 with 5 to 11 or 13 impossible: block and note calls have no book, book calls no block\n");
+    printf("pairs, any call: 1 or 2 with 13 impossible: a page has neither key nor way\n");
     printf("long books: %" PRIu64 " encrypted, %" PRIu64 " decrypted, %" PRIu64
            " for a page, of 10,000 bytes or more; longest accepted %zu\n",
            long_books[CALL_ENCRYPT_BOOK], long_books[CALL_DECRYPT_BOOK], long_books[CALL_PAGE], longest_accepted);

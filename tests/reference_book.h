@@ -9,8 +9,8 @@
  * A check that reads bytes is judged on those that are there:
  *   1 to 5   always, in the calls that have them, and so is 12; 4 fails beside
  *            a wrong key length if the output fits none of the permitted ones,
- *            and beside a sheet whose record count is not there or not
- *            permitted if no page is as long as the output;
+ *            and beside a sheet whose record count is not there or above
+ *            1,024 if no page is as long as the output;
  *   6        if a byte that is there shows it;
  *   7, 8     if the head is there;
  *   9        if some entry that lies whole in the book is broken;
@@ -119,7 +119,7 @@ int check_place(call_kind kind, int check);
 
 /* The bytes of output that a call asks for where its other lengths are right;
  * 0 where the key length is not permitted and decides it, or where the sheet's
- * record count does and is not there or not permitted. */
+ * record count does and is not there or above 1,024. */
 size_t reference_output_length(const call_input *in);
 
 /* The number of replicates that an entry gives its sheet, within the limit or

@@ -154,9 +154,9 @@ test_page_refusals() {
     page_samples
     for sheet in 0 7; do
         page="page --sheet $sheet"
-        expect_exactly 1 "planbook: sealed128 is sealed already, and a clear book is needed here [check 6]" $page sealed128 x
-        expect_exactly 1 "planbook: plan.csv is text, and a plan book is needed here [check 6]" $page plan.csv x
-        expect_exactly 1 "planbook: note is text, and a plan book is needed here [check 6]" $page note x
+        expect_exactly 1 "planbook: sealed128 is sealed, and a page needs a clear book: open it first [check 6]" $page sealed128 x
+        expect_exactly 1 "planbook: plan.csv is text, and a page needs a clear book: planbook pack makes one of a plan [check 6]" $page plan.csv x
+        expect_exactly 1 "planbook: note is text, and a page needs a clear book: planbook pack makes one of a plan [check 6]" $page note x
         expect_exactly 1 "planbook: empty has 0 bytes, and a plan book has at least 4 [check 5]" $page empty x
         # cut in the head, the contents and the records
         for cut in "3:has 3 bytes, and a plan book has at least 4 [check 5]" \

@@ -16,11 +16,11 @@ use Rattle.clefia_spec.specs.Sbox.{ss0, ss1, ss2, ss3, s0, bitOf, sumOfBits, af
 use Rattle.clefia_spec.specs.FFunction.{entry, rowTimes, matrixTimes, substitute, f0, f1}
 
 -- a row of numbers, tested
-allLess : ℕ → List ℕ → Bool
+unfoldable pub allLess : ℕ → List ℕ → Bool
 allLess b [] = true
 allLess b (x ∷ xs) = ltb x b && allLess b xs
 
-below-tested : (b : ℕ) (xs : List ℕ) → T (allLess b xs) → Below b xs
+pub below-tested : (b : ℕ) (xs : List ℕ) → T (allLess b xs) → Below b xs
 unfolding allLess
 below-tested b [] t = none
 below-tested b (x ∷ xs) t = let h = and-yes (ltb x b) (allLess b xs) t in more (ltb→lt x b (h .0)) (below-tested b xs (h .1))

@@ -1,5 +1,7 @@
 // The planting page of the first sheet of a clear book. The book comes from standard input, which is read to its end or to the first byte that no book has
-// room for, and the page goes to standard output. Of a book that is refused, or that has no sheets, nothing is written.
+// room for, and the page goes to standard output. Of a book that is refused, or that has no sheets, nothing is written, to neither stream; a page that could
+// not be written whole is told on standard error.
+use libc::STDERR_FILENO;
 use libc::STDIN_FILENO;
 use libc::STDOUT_FILENO;
 use planbook::planbook_page;
@@ -25,7 +27,12 @@ fn print_page(book: &[u8], page: &mut [u8]) {
     let answer = planbook_page(book, 0, page);
     // From 2 ^ 32 on it is the number of a check.
     if answer < 4294967296 {
-        io::write_all(STDOUT_FILENO, page);
+        if !io::write_all(STDOUT_FILENO, page) {
+            io::write_all(
+                STDERR_FILENO,
+                b"page: not all of the page could be written\n",
+            );
+        }
     }
 }
 

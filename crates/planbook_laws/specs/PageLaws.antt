@@ -11,8 +11,9 @@ use lib.Dec.{eqb, leb, ltb, lit<}
 use lib.ListN.{length, getD, take, drop, length-append, length-drop, take-append-drop}
 use lib.Seq.{take-at, drop-at, drop-cons, take-add, take-all, length-take-le}
 use Rattle.clefia_spec.specs.Cases.{both-true}
-use Rattle.clefia_spec.specs.Words.{choose, fromDigits, toDigits, Below}
-use Rattle.clefia_laws.specs.DigitLaws.{to-from, fromDigits-lt, below-take, below-drop}
+use Rattle.clefia_spec.specs.Words.{choose, fromDigits, toDigits, Below, none, more}
+use Rattle.clefia_laws.specs.FFunctionLaws.{allLess, below-tested}
+use Rattle.clefia_laws.specs.DigitLaws.{to-from, fromDigits-lt, below-append, below-take, below-drop}
 use Rattle.clefia_laws.specs.RowLaws.{Bytes, sized-take, sized-drop}
 use Rattle.planbook_spec.specs.Outcome.{accepted, after}
 use Rattle.planbook_spec.specs.OutcomeLaws.{AllPass, pass-head, pass-tail, pass-left, pass-right, passed, Accepted, accepted-is, Judges, judges}
@@ -22,7 +23,7 @@ use Rattle.planbook_laws.specs.Undoing.{empty}
 use Rattle.planbook_laws.specs.CheckLaws.{output-size}
 use Rattle.planbook_laws.specs.BookLaws.{Formed, formed}
 use Rattle.planbook_laws.specs.SheetLaws.{body-room, SheetKept, sheet-kept}
-use Rattle.planbook_spec.specs.Page.{decimal, spaces, rightAligned, numberField, heading, line, lines, page, lineCount, sheetCheck, pageChecks, pageCall}
+use Rattle.planbook_spec.specs.Page.{decimal, spaces, rightAligned, numberField, joined, heading, line, lines, page, lineCount, sheetCheck, pageChecks, pageCall}
 
 -- ---- lengths
 
@@ -65,6 +66,47 @@ length-lines (suc n) bs = length-append (line (take 16 bs)) (lines (pieces 16 n 
 pub length-page : (i : ℕ) (book : List ℕ) → length (page i book) ≡ 32 * lineCount i book
 unfolding page
 length-page i book = length-append heading _ ∙ omega (arith, length-heading, length-lines (count (sheetEntry i book)) (sheetBody i book))
+
+-- ---- characters: every one is below 128
+
+below-decimal : (k n : ℕ) → Below 128 (decimal k n)
+unfolding decimal
+below-decimal zero n = none
+below-decimal (suc k) n = below-append (by-test (ltb n 10) (below-decimal k (n / 10))) (more (omega arith) none)
+  where
+    by-test : (t : Bool) → Below 128 (decimal k (n / 10)) → Below 128 (choose t [] (decimal k (n / 10)))
+    by-test true h = none
+    by-test false h = h
+
+below-spaces : (n : ℕ) → Below 128 (spaces n)
+unfolding spaces
+below-spaces zero = none
+below-spaces (suc n) = more (lit< tt) (below-spaces n)
+
+below-aligned : (w : ℕ) {text : List ℕ} → Below 128 text → Below 128 (rightAligned w text)
+unfolding rightAligned
+below-aligned w h = below-append (below-spaces _) h
+
+below-field : (w n : ℕ) → Below 128 (numberField w n)
+below-field w n = below-aligned w (below-decimal w n)
+
+below-joined : {a b c d e : List ℕ} → Below 128 a → Below 128 b → Below 128 c → Below 128 d → Below 128 e → Below 128 (joined a b c d e)
+below-joined a b c d e =
+    below-append a (more (lit< tt) (below-append b (more (lit< tt) (below-append c (more (lit< tt) (below-append d (more (lit< tt) (below-append e (more (lit< tt) none)))))))))
+
+below-heading : Below 128 heading
+unfolding heading rightAligned spaces allLess
+below-heading = below-tested 128 heading tt
+
+below-lines : (rs : List (List ℕ)) → Below 128 (lines rs)
+unfolding lines line
+below-lines [] = none
+below-lines (r ∷ rs) = below-append (below-joined (below-field 10 _) (below-field 10 _) (below-field 1 _) (below-field 3 _) (below-field 3 _)) (below-lines rs)
+
+-- So a page is ASCII.
+pub ascii-page : (i : ℕ) (book : List ℕ) → Below 128 (page i book)
+unfolding page
+ascii-page i book = below-append below-heading (below-lines _)
 
 -- ---- a field gives its number back
 
@@ -112,7 +154,7 @@ parts n a a′ {b} {b′} l l′ e =
 field-parts : (w m n : ℕ) {b b′ : List ℕ} → numberField w m ++ b ≡ numberField w n ++ b′ → (numberField w m ≡ numberField w n) × (b ≡ b′)
 field-parts w m n = parts w (numberField w m) (numberField w n) (length-field w m) (length-field w n)
 
--- The numbers of a record that fit their fields.
+-- That the numbers of a record fit their fields.
 record Fits (r : List ℕ) : Type 0 where
   trial : recordTrial r < 10 ^ 10
   entry : recordEntry r < 10 ^ 10

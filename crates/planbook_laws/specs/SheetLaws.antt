@@ -15,7 +15,7 @@ use Rattle.clefia_laws.specs.RowLaws.{Bytes}
 use Rattle.planbook_spec.specs.Book.{pieces, trial, count, replicates, entryHolds, entriesHold, sheetHolds, sheetCount, contents, bodies, recordCount, sheetEntry, sheetBody, sheetsHold, asItIs}
 use Rattle.planbook_laws.specs.BookLaws.{Formed}
 
--- Entry i of the entries in a row of bytes, and its body in the bodies end to end.
+-- `sheetEntry` and `sheetBody` over any row of entries and any bodies end to end, for induction: what a book has, and what is left of it behind a sheet.
 abbrev entry : ℕ → List ℕ → List ℕ
 entry i xs = take 24 (drop (24 * i) xs)
 

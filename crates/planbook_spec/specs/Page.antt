@@ -1,5 +1,5 @@
 -- The planting page of a sheet, and what the call for it answers. It is text, to be pinned at a bench: a heading, and a line for each record in the order of
--- the body. Every line has 31 characters, of which each is a byte (ASCII), and a line feed.
+-- the body. Every line has 31 characters, each of them a byte below 128 (ASCII), and a line feed.
 use Prim.Native.Nat.{ℕ, zero, suc, _+_, _-_, _*_, _/_, _%_}
 use mathlib.Core.List.{List, [], _∷_, _++_}
 use lib.Dec.{ltb}
@@ -9,8 +9,8 @@ use Rattle.planbook_spec.specs.Outcome.{Outcome, accepted, Check, check,
 use Rattle.planbook_spec.specs.Checks.{outputCheck}
 use Rattle.planbook_spec.specs.Book.{pieces, count, recordTrial, recordEntry, recordReplicate, recordRow, recordColumn, sheetCount, sheetEntry, sheetBody, asItIs, formAndRecords}
 
--- The decimal digits of a number, the highest first, with no zero in front; that of 0 is one zero. There are at most k of them, as many as a number below
--- 10 ^ k needs. The digit 0 is the character 48.
+-- The decimal digits of a number below 10 ^ k, the highest first, with no zero in front; 0 is one digit. (Of a greater number the last k digits.) The digit 0
+-- is the character 48.
 unfoldable pub decimal : ℕ → ℕ → List ℕ
 decimal zero n = []
 decimal (suc k) n = choose (ltb n 10) [] (decimal k (n / 10)) ++ ((48 + n % 10) ∷ [])

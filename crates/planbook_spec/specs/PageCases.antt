@@ -91,20 +91,24 @@ pub pageCases-hold : AllHold pageCases
 unfolding pageCases rising allSame fromDigits toDigits answer after judged outputCheck number pieces replicates entryHolds entriesHold plotHolds recordHolds allRecordsHold recordCount formChecks sheetsHold recordsCheck decimal spaces rightAligned heading line lines page sheetCheck pageChecks pageCall
 pageCases-hold = computed pageCases refl
 
--- Checks 5 to 11, 13 and 4. Where the first seven fail, 13 and 4 fail too.
+-- An index that no book has a sheet of.
+abbrev pub beyond : ℕ
+beyond = 2 ^ 64 - 1
+
+-- Checks 5 to 11, 13 and 4. Each of the first seven stands beside a 13 and a 4 that fail too.
 pub pageCheckCases : List Case
 pageCheckCases =
-    (paged (1 ∷ 0 ∷ 0 ∷ []) 9 0 ∷ paged (replicate 65533 1) 9 0 ∷ paged (replicate 65532 1) 9 0 ∷ [] gives 5 * 2 ^ 32 ∷ 5 * 2 ^ 32 ∷ 6 * 2 ^ 32 ∷ [])
+    (paged (1 ∷ 0 ∷ 0 ∷ []) beyond 0 ∷ paged (replicate 65533 1) beyond 0 ∷ paged (replicate 65532 1) beyond 0 ∷ [] gives 5 * 2 ^ 32 ∷ 5 * 2 ^ 32 ∷ 6 * 2 ^ 32 ∷ [])
     -- a sealed book; the second byte; 65 sheets; contents that are cut
-    ∷ (paged (set large 0 2) 9 0 ∷ paged (set large 1 1) 9 0 ∷ paged (set large 3 65) 9 0 ∷ paged (take 51 large) 9 0 ∷ []
+    ∷ (paged (set large 0 2) beyond 0 ∷ paged (set large 1 1) beyond 0 ∷ paged (set large 3 65) beyond 0 ∷ paged (take 51 large) beyond 0 ∷ []
     gives 6 * 2 ^ 32 ∷ 6 * 2 ^ 32 ∷ 7 * 2 ^ 32 ∷ 8 * 2 ^ 32 ∷ [])
     -- trials that do not rise; a byte too few, and one too many
-    ∷ (paged (set large 31 41) 9 0 ∷ paged (take 99 large) 9 0 ∷ paged (large ++ (0 ∷ [])) 9 0 ∷ [] gives 9 * 2 ^ 32 ∷ 10 * 2 ^ 32 ∷ 10 * 2 ^ 32 ∷ [])
+    ∷ (paged (set large 31 41) beyond 0 ∷ paged (take 99 large) beyond 0 ∷ paged (large ++ (0 ∷ [])) beyond 0 ∷ [] gives 9 * 2 ^ 32 ∷ 10 * 2 ^ 32 ∷ 10 * 2 ^ 32 ∷ [])
     -- 11 before 13, in either sheet; and of the whole book, whichever sheet is asked for
-    ∷ (paged (set large 60 0) 9 0 ∷ paged (set large 92 0) 9 0 ∷ [] gives 11 * 2 ^ 32 ∷ 11 * 2 ^ 32 ∷ [])
+    ∷ (paged (set large 60 0) beyond 0 ∷ paged (set large 92 0) beyond 0 ∷ [] gives 11 * 2 ^ 32 ∷ 11 * 2 ^ 32 ∷ [])
     ∷ (paged (set large 92 0) 0 96 ∷ paged (set large 60 0) 1 64 ∷ paged (set large 76 0) 1 64 ∷ [] gives 11 * 2 ^ 32 ∷ 11 * 2 ^ 32 ∷ 11 * 2 ^ 32 ∷ [])
     -- 13: of a book of no sheets, of two; compared whole; before 4
-    ∷ (paged (1 ∷ 0 ∷ 0 ∷ 0 ∷ []) 0 32 ∷ paged large 2 32 ∷ paged large 2 64 ∷ paged large 3 0 ∷ paged large (2 ^ 32) 96 ∷ paged large (2 ^ 64 - 1) 96 ∷ []
+    ∷ (paged (1 ∷ 0 ∷ 0 ∷ 0 ∷ []) 0 32 ∷ paged large 2 32 ∷ paged large 2 64 ∷ paged large 3 0 ∷ paged large (2 ^ 32) 96 ∷ paged large beyond 96 ∷ []
     gives replicate 6 (13 * 2 ^ 32))
     -- 4: a byte too few, a byte too many, no heading, a line more, the length of the other sheet
     ∷ (paged large 0 95 ∷ paged large 0 97 ∷ paged large 0 64 ∷ paged large 0 128 ∷ paged large 1 96 ∷ paged large 1 0 ∷ [] gives replicate 6 (4 * 2 ^ 32))

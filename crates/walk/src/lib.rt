@@ -15,7 +15,7 @@ pub fn body_end(book: &[u8], from: usize, at: usize) -> usize
     at + 16 * entry::half(book, from + 4)
 }
 
-// Where the body of a sheet begins, which may be the end of the last one.
+// Where the body of a sheet begins; for an index that is the number of sheets, the end of the book.
 pub fn body_start(book: &[u8], sheet: usize) -> usize
     requires { ⌜ Formed (now book) × (sheet ≤ sheetCount (now book)) ⌝ }
     ensures { λ r. ⌜ r ≡ bodyStart sheet (now (book .entry)) ⌝ }
