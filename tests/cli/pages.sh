@@ -157,6 +157,8 @@ test_page_refusals() {
         expect_exactly 1 "planbook: sealed128 is sealed, and a page needs a clear book: open it first [check 6]" $page sealed128 x
         expect_exactly 1 "planbook: plan.csv is text, and a page needs a clear book: planbook pack makes one of a plan [check 6]" $page plan.csv x
         expect_exactly 1 "planbook: note is text, and a page needs a clear book: planbook pack makes one of a plan [check 6]" $page note x
+        printf '\002\001\000\000' >odd
+        expect_exactly 1 "planbook: odd is no clear plan book: it begins with 02 01 and not with 01 00 [check 6]" $page odd x
         expect_exactly 1 "planbook: empty has 0 bytes, and a plan book has at least 4 [check 5]" $page empty x
         # cut in the head, the contents and the records
         for cut in "3:has 3 bytes, and a plan book has at least 4 [check 5]" \
