@@ -8,12 +8,12 @@ use native.Mathlib.Nat.{pow-zero, pow-suc}
 use native.Mathlib.Omega.{arith}
 use borrow.Author.Tests.{eqb-true, leb-true, ltb-true}
 use lib.Dec.{eqb, leb, ltb, lit<}
-use lib.ListN.{length, getD, take, drop, length-append, length-drop, take-append-drop}
-use lib.Seq.{take-at, drop-at, drop-cons, take-add, take-all, length-take-le}
+use lib.ListN.{length, getD, take, drop, length-append, take-append-drop}
+use lib.Seq.{take-at, drop-at, drop-cons, take-add, take-all}
 use Rattle.clefia_spec.specs.Cases.{both-true}
 use Rattle.clefia_spec.specs.Words.{choose, fromDigits, toDigits, Below, none, more}
 use Rattle.clefia_laws.specs.FFunctionLaws.{allLess, below-tested}
-use Rattle.clefia_laws.specs.DigitLaws.{to-from, fromDigits-lt, below-append, below-take, below-drop}
+use Rattle.clefia_laws.specs.DigitLaws.{to-from, fromDigits-lt, below-append}
 use Rattle.clefia_laws.specs.RowLaws.{Bytes, sized-take, sized-drop}
 use Rattle.planbook_spec.specs.Outcome.{accepted, after}
 use Rattle.planbook_spec.specs.OutcomeLaws.{AllPass, pass-head, pass-tail, pass-left, pass-right, passed, Accepted, accepted-is, Judges, judges}
@@ -191,6 +191,10 @@ number-one : (at : ℕ) (bs : List ℕ) → at < length bs → number at 1 bs �
 unfolding number fromDigits
 number-one at bs h = rw (drop-cons bs at 0 h) (omega arith)
 
+-- The bytes of a number that stands in a record.
+part-bytes : (at k : ℕ) {r : List ℕ} → Bytes 16 r → at + k ≤ 16 → Bytes k (take k (drop at r))
+part-bytes at k b h = sized-take k (16 - at - k) (sized-drop at (16 - at) b (omega arith)) (omega arith)
+
 module _ {r r′ : List ℕ} (b : Bytes 16 r) (b′ : Bytes 16 r′) where
   -- The bytes of one number more.
   longer : (a k : ℕ) → a + k ≤ 16 → take a r ≡ take a r′ → number a k r ≡ number a k r′ → take (a + k) r ≡ take (a + k) r′
@@ -199,8 +203,8 @@ module _ {r r′ : List ℕ} (b : Bytes 16 r) (b′ : Bytes 16 r′) where
     where
       digits : {s : List ℕ} → Bytes 16 s → toDigits 256 k (fromDigits 256 (take k (drop a s))) ≡ take k (drop a s)
       digits {s} p =
-          let l : length (take k (drop a s)) ≡ k = length-take-le k (drop a s) (omega (arith, length-drop a s, p .size)) in
-          ap (λ (m : ℕ). toDigits 256 m (fromDigits 256 (take k (drop a s)))) (sym l) ∙ to-from (lit< tt) (below-take k (below-drop a (p .below)))
+          let q : Bytes k (take k (drop a s)) = part-bytes a k p h in
+          ap (λ (m : ℕ). toDigits 256 m (fromDigits 256 (take k (drop a s)))) (sym (q .size)) ∙ to-from (lit< tt) (q .below)
 
   same-record : SameNumbers r r′ → number 13 3 r ≡ number 13 3 r′ → r ≡ r′
   same-record s z =
@@ -242,8 +246,8 @@ record Kept (r : List ℕ) : Type 0 where
 number-small : (at k : ℕ) {r : List ℕ} → Bytes 16 r → at + k ≤ 16 → number at k r < 256 ^ k
 unfolding number
 number-small at k {r} b h =
-    let l : length (take k (drop at r)) ≡ k = length-take-le k (drop at r) (omega (arith, length-drop at r, b .size)) in
-    rw l at (fromDigits-lt (lit< tt) (below-take k (below-drop at (b .below))))
+    let q : Bytes k (take k (drop at r)) = part-bytes at k b h in
+    rw (q .size) at (fromDigits-lt (lit< tt) (q .below))
 
 kept : (e : List ℕ) {r : List ℕ} → replicates e ≤ 8 → Bytes 16 r → recordHolds e r ≡ true → Kept r
 unfolding recordHolds
