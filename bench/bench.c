@@ -53,7 +53,7 @@ int main(int argc, char **argv)
     list_tasks(sides_have_pages());
     struct disturbance d = measure_tasks(o.patience_ns);
     if (o.beside) {
-        print_beside(&d);
+        print_beside(&d, other_side_takes_keys());
         return 0;
     }
     size_t scale_count = measure_scales(scales);

@@ -17,7 +17,7 @@ struct measured {
 struct limit {
     const char *what;
     struct measured above, below;
-    enum { AT_MOST, AT_LEAST } sense;
+    enum { AT_MOST, AT_LEAST, TOLD } sense; /* what is told has no bound */
     double bound;
 };
 
@@ -25,26 +25,29 @@ struct limit {
 #define SEALING(way, side) {ENCRYPT_BOOK, LARGEST_BOOK, way, side}
 #define OPENING(way, side) {DECRYPT_BOOK, LARGEST_BOOK, way, side}
 #define NOTE(way, side) {CRYPT_NOTE, LONGEST_NOTE, way, side}
+#define NOTE_OF_64(side) {CRYPT_NOTE, SHORT_NOTE, 2, side}
 #define LONGEST_PAGE(side) {PAGE, LARGEST_SHEET, 0, side}
-#define SMALL(kind) {kind, SMALL_BOOK, 2, LIBRARY}
+#define SMALL(kind, side) {kind, SMALL_BOOK, 2, side}
 #define GROWING(kind) {kind, GROWING_BOOKS, 2, LIBRARY}
 
 static const struct limit limits[] = {
     {"way 1, the largest book sealed, library / C", SEALING(1, LIBRARY), SEALING(1, PLAIN), AT_MOST, 1.10},
     {"way 1, one block encrypted, library / C", BLOCK(1, LIBRARY), BLOCK(1, PLAIN), AT_MOST, 1.10},
     {"way 2, the largest book sealed, library / C", SEALING(2, LIBRARY), SEALING(2, PLAIN), AT_MOST, 1.05},
-    {"way 2, one block encrypted, library / C", BLOCK(2, LIBRARY), BLOCK(2, PLAIN), AT_MOST, 1.75},
+    {"way 2, 24 records sealed, library / C", SMALL(ENCRYPT_BOOK, LIBRARY), SMALL(ENCRYPT_BOOK, PLAIN), AT_MOST, 1.10},
+    {"way 2, one block encrypted, library / C", BLOCK(2, LIBRARY), BLOCK(2, PLAIN), TOLD, 0},
     {"way 3, the largest book sealed, library / C", SEALING(3, LIBRARY), SEALING(3, PLAIN), AT_MOST, 1.10},
     {"way 3, one block encrypted, library / C", BLOCK(3, LIBRARY), BLOCK(3, PLAIN), AT_MOST, 1.10},
     {"way 2, the largest book opened, library / C", OPENING(2, LIBRARY), OPENING(2, PLAIN), AT_MOST, 2.00},
     {"way 1, the longest note, library / C", NOTE(1, LIBRARY), NOTE(1, PLAIN), AT_MOST, 1.10},
     {"way 2, the longest note, library / C", NOTE(2, LIBRARY), NOTE(2, PLAIN), AT_MOST, 1.10},
     {"way 3, the longest note, library / C", NOTE(3, LIBRARY), NOTE(3, PLAIN), AT_MOST, 1.10},
+    {"way 2, a note of 64 bytes, library / C", NOTE_OF_64(LIBRARY), NOTE_OF_64(PLAIN), TOLD, 0},
     {"page of 1,024 records, library / C", LONGEST_PAGE(LIBRARY), LONGEST_PAGE(PLAIN), AT_MOST, 1.30},
     {"way 1, the largest book, opening / sealing", OPENING(1, LIBRARY), SEALING(1, LIBRARY), AT_MOST, 2.10},
     {"way 2, the largest book, opening / sealing", OPENING(2, LIBRARY), SEALING(2, LIBRARY), AT_MOST, 1.15},
     {"way 3, the largest book, opening / sealing", OPENING(3, LIBRARY), SEALING(3, LIBRARY), AT_MOST, 2.10},
-    {"way 2, 24 records, opening / sealing", SMALL(DECRYPT_BOOK), SMALL(ENCRYPT_BOOK), AT_MOST, 1.35},
+    {"way 2, 24 records, opening / sealing", SMALL(DECRYPT_BOOK, LIBRARY), SMALL(ENCRYPT_BOOK, LIBRARY), AT_MOST, 1.35},
     {"the largest book sealed, way 1 / way 2", SEALING(1, LIBRARY), SEALING(2, LIBRARY), AT_LEAST, 2},
     {"the largest book sealed, way 3 / way 2", SEALING(3, LIBRARY), SEALING(2, LIBRARY), AT_LEAST, 8},
     {"the largest book sealed, way 3 / way 2", SEALING(3, LIBRARY), SEALING(2, LIBRARY), AT_MOST, 50},
@@ -62,10 +65,10 @@ static const double *times(const struct measured *m, size_t key_len)
 
 static double worst_of_keys(const struct limit *l)
 {
-    double worst = l->sense == AT_MOST ? 0 : INFINITY;
+    double worst = l->sense == AT_LEAST ? INFINITY : 0;
     for (size_t key_len = 16; key_len <= 32; key_len += 8) {
         double ratio = median_ratio(times(&l->above, key_len), times(&l->below, key_len));
-        worst = l->sense == AT_MOST ? fmax(worst, ratio) : fmin(worst, ratio);
+        worst = l->sense == AT_LEAST ? fmin(worst, ratio) : fmax(worst, ratio);
     }
     return worst;
 }
@@ -97,6 +100,10 @@ int print_limits(void)
     printf("| ratio | found | limit | |\n|---|---:|---:|---|\n");
     for (const struct limit *l = limits; l < limits + LIMITS; l++) {
         double found = l->below.blocks == GROWING_BOOKS ? growth(l) : worst_of_keys(l);
+        if (l->sense == TOLD) {
+            printf("| %s | %.3f | none | |\n", l->what, found);
+            continue;
+        }
         int most = l->sense == AT_MOST, holds = most ? found <= l->bound : found >= l->bound;
         broken += !holds;
         printf("| %s | %.3f | at %s %.2f | %s |\n", l->what, found, most ? "most" : "least", l->bound,

@@ -18,12 +18,13 @@
 #include <string.h>
 
 #define INLINE static inline __attribute__((always_inline))
+#define APART static __attribute__((noinline))
 
 enum { BYTE_TABLES = 1, WORD_TABLES = 2, BY_RULES = 3 };
 enum { BLOCK = 16, HEAD = 4, ENTRY = 24, IV_AT = 8 };
 enum { MOST_BYTES = 65532, MOST_SHEETS = 64, MOST_RECORDS = 1024, MOST_REPLICATES = 8, REPLICATES_BY_DEFAULT = 4 };
 enum { MOST_ROW = 999, MOST_COLUMN = 999, PLOT_AT = 9 };
-enum { MOST_NOTE_BYTES = 16384 };
+enum { MOST_WORDS = 56, MOST_NOTE_BYTES = 16384 };
 enum { LINE = 32 };
 enum { CLEAR = 1, SEALED = 2 };
 enum { ABREAST = 4 };
@@ -126,16 +127,38 @@ INLINE uint32_t f1(int way, uint32_t key, uint32_t x)
  * chain no faster: it waits for the tables.
  */
 
-INLINE struct quad network4(int way, const uint32_t *keys, int rounds, struct quad t)
+/* A round key as it was lent, its highest byte first, or as a word. */
+INLINE uint32_t key_at(int lent, const uint8_t *p)
 {
-    for (const uint32_t *end = keys + 2 * rounds; keys < end; keys += 4) {
-        t.b ^= f0(way, keys[0], t.a);
-        t.d ^= f1(way, keys[1], t.c);
-        t.c ^= f0(way, keys[2], t.b);
-        t.a ^= f1(way, keys[3], t.d);
+    uint32_t w;
+    memcpy(&w, p, sizeof w);
+    return lent ? __builtin_bswap32(w) : w;
+}
+
+INLINE struct quad network4(int way, int lent, const void *keys, int rounds, struct quad t)
+{
+    const uint8_t *at = keys;
+    for (const uint8_t *end = at + 8 * rounds; at < end; at += 16) {
+        t.b ^= f0(way, key_at(lent, at), t.a);
+        t.d ^= f1(way, key_at(lent, at + 4), t.c);
+        t.c ^= f0(way, key_at(lent, at + 8), t.b);
+        t.a ^= f1(way, key_at(lent, at + 12), t.d);
         t = (struct quad){t.c, t.d, t.a, t.b};
     }
     return (struct quad){t.d, t.a, t.b, t.c};
+}
+
+INLINE struct quad network4_back(int way, int lent, const void *keys, int rounds, struct quad t)
+{
+    const uint8_t *start = keys;
+    for (const uint8_t *at = start + 8 * rounds; at > start; at -= 16) {
+        t.b ^= f0(way, key_at(lent, at - 8), t.a);
+        t.d ^= f1(way, key_at(lent, at - 4), t.c);
+        t.a ^= f0(way, key_at(lent, at - 16), t.d);
+        t.c ^= f1(way, key_at(lent, at - 12), t.b);
+        t = (struct quad){t.c, t.d, t.a, t.b};
+    }
+    return (struct quad){t.b, t.c, t.d, t.a};
 }
 
 /* The two rounds of a turn, for blocks abreast. */
@@ -180,7 +203,7 @@ INLINE void network4_abreast(int way, const uint32_t *keys, int rounds, struct q
     t[3] = (struct quad){t3.d, t3.a, t3.b, t3.c};
 }
 
-/* The two rounds of a turn backward. */
+/* The same backward. */
 INLINE void first_back(int way, const uint32_t *at, struct quad *t)
 {
     t->b ^= f0(way, at[-2], t->a);
@@ -192,15 +215,6 @@ INLINE void second_back(int way, const uint32_t *at, struct quad *t)
     t->a ^= f0(way, at[-4], t->d);
     t->c ^= f1(way, at[-3], t->b);
     *t = (struct quad){t->c, t->d, t->a, t->b};
-}
-
-INLINE void network4_back(int way, const uint32_t *keys, int rounds, struct quad *t)
-{
-    for (const uint32_t *at = keys + 2 * rounds; at > keys; at -= 4) {
-        first_back(way, at, t);
-        second_back(way, at, t);
-    }
-    *t = (struct quad){t->b, t->c, t->d, t->a};
 }
 
 INLINE void network4_back_abreast(int way, const uint32_t *keys, int rounds, struct quad t[ABREAST])
@@ -243,13 +257,7 @@ INLINE void network8(int way, const uint32_t *keys, struct quad *left, struct qu
     *right = (struct quad){l.d, r.a, r.b, r.c};
 }
 
-/* The key schedule. */
-
-/* The expanded key: four whitening words, then two round keys a round. */
-struct schedule {
-    uint32_t words[56];
-    int rounds;
-};
+/* The key schedule: four whitening words, then two round keys a round. */
 
 INLINE struct quad double_swap(struct quad t)
 {
@@ -285,46 +293,93 @@ INLINE void mix_in(uint32_t *words, struct quad key)
     put_quad(words, xor_quads(get_quad(words), key));
 }
 
-INLINE void expand_16(int way, const uint8_t *key, struct schedule *s)
+INLINE void expand_16(int way, const uint8_t *key, uint32_t *words)
 {
-    struct quad k = load_quad(key), l = network4(way, CONSTANTS_16, 12, k);
-    s->rounds = 18;
-    put_quad(s->words, k);
+    struct quad k = load_quad(key), l = network4(way, 0, CONSTANTS_16, 12, k);
+    put_quad(words, k);
     for (int i = 0; i < 9; i++) {
-        put_round_keys(s->words + 4 + 4 * i, &l, CONSTANTS_16 + 24 + 4 * i);
+        put_round_keys(words + 4 + 4 * i, &l, CONSTANTS_16 + 24 + 4 * i);
         if (i % 2 == 1)
-            mix_in(s->words + 4 + 4 * i, k);
+            mix_in(words + 4 + 4 * i, k);
     }
 }
 
 INLINE void expand_longer(int way, struct quad kl, struct quad kr, const uint32_t *constants,
-                          int rounds, struct schedule *s)
+                          int rounds, uint32_t *words)
 {
     struct quad ll = kl, lr = kr;
     network8(way, constants, &ll, &lr);
-    s->rounds = rounds;
-    put_quad(s->words, xor_quads(kl, kr));
+    put_quad(words, xor_quads(kl, kr));
     for (int i = 0; 2 * i < rounds; i++) {
-        put_round_keys(s->words + 4 + 4 * i, i % 4 < 2 ? &ll : &lr, constants + 40 + 4 * i);
+        put_round_keys(words + 4 + 4 * i, i % 4 < 2 ? &ll : &lr, constants + 40 + 4 * i);
         if (i % 2 == 1)
-            mix_in(s->words + 4 + 4 * i, i % 4 < 2 ? kr : kl);
+            mix_in(words + 4 + 4 * i, i % 4 < 2 ? kr : kl);
     }
 }
 
-INLINE void expand(int way, const uint8_t *key, size_t key_len, struct schedule *s)
+INLINE void expand(int way, const uint8_t *key, size_t key_len, uint32_t *words)
 {
     if (key_len == 16) {
-        expand_16(way, key, s);
+        expand_16(way, key, words);
         return;
     }
     struct quad kl = load_quad(key), kr;
     if (key_len == 24) {
         kr = (struct quad){load_word(key + 16), load_word(key + 20), ~kl.a, ~kl.b};
-        expand_longer(way, kl, kr, CONSTANTS_24, 22, s);
+        expand_longer(way, kl, kr, CONSTANTS_24, 22, words);
     } else {
         kr = load_quad(key + 16);
-        expand_longer(way, kl, kr, CONSTANTS_32, 26, s);
+        expand_longer(way, kl, kr, CONSTANTS_32, 26, words);
     }
+}
+
+/* 160, 192 or 224 bytes of words are for 18, 22 or 26 rounds. */
+INLINE int rounds_of(size_t words_len)
+{
+    return (int)(words_len / 8) - 2;
+}
+
+/*
+ * A block alone, under the words as they were lent: each is loaded where it is
+ * used, while the block waits for the tables. To read them all first takes 1.15
+ * times as long by word tables.
+ */
+
+INLINE void encrypt_one(int way, const uint8_t *words, int rounds, const uint8_t *block, uint8_t *out)
+{
+    struct quad t = load_quad(block);
+    t.b ^= load_word(words);
+    t.d ^= load_word(words + 4);
+    t = network4(way, 1, words + 16, rounds, t);
+    t.b ^= load_word(words + 8);
+    t.d ^= load_word(words + 12);
+    store_quad(out, t);
+}
+
+INLINE void decrypt_one(int way, const uint8_t *words, int rounds, const uint8_t *block, uint8_t *out)
+{
+    struct quad t = load_quad(block);
+    t.b ^= load_word(words + 8);
+    t.d ^= load_word(words + 12);
+    t = network4_back(way, 1, words + 16, rounds, t);
+    t.b ^= load_word(words);
+    t.d ^= load_word(words + 4);
+    store_quad(out, t);
+}
+
+/* Books and notes: the words are read once, ahead of all blocks. */
+struct schedule {
+    uint32_t words[MOST_WORDS];
+    int rounds;
+};
+
+/* Eight at a time, which divides 40, 48 and 56: the compiler unrolls it. */
+INLINE void read_words(const uint8_t *words, size_t words_len, struct schedule *s)
+{
+    s->rounds = rounds_of(words_len);
+    for (size_t i = 0; i < words_len / 4; i += 8)
+        for (size_t j = i; j < i + 8; j++)
+            s->words[j] = load_word(words + 4 * j);
 }
 
 /* Blocks: one, or as many as go abreast. */
@@ -339,7 +394,7 @@ INLINE void encrypt(int way, const struct schedule *s, struct quad *p, int lanes
     if (lanes == ABREAST)
         network4_abreast(way, w + 4, s->rounds, p);
     else
-        *p = network4(way, w + 4, s->rounds, *p);
+        *p = network4(way, 0, w + 4, s->rounds, *p);
     for (int i = 0; i < lanes; i++) {
         p[i].b ^= w[2];
         p[i].d ^= w[3];
@@ -356,14 +411,14 @@ INLINE void decrypt(int way, const struct schedule *s, struct quad *c, int lanes
     if (lanes == ABREAST)
         network4_back_abreast(way, w + 4, s->rounds, c);
     else
-        network4_back(way, w + 4, s->rounds, c);
+        *c = network4_back(way, 0, w + 4, s->rounds, *c);
     for (int i = 0; i < lanes; i++) {
         c[i].b ^= w[0];
         c[i].d ^= w[1];
     }
 }
 
-/* CBC chains. A single block is a chain of one from a zero iv. */
+/* CBC chains. */
 
 INLINE void encrypt_chain(int way, const struct schedule *s, const uint8_t *iv,
                           const uint8_t *in, uint8_t *out, size_t blocks)
@@ -438,7 +493,11 @@ INLINE void crypt_bytes(int way, const struct schedule *s, const uint8_t *first_
     }
 }
 
-/* One copy of each for each way, picked once a call or a sheet. */
+/*
+ * One copy of each for each way, picked once a call or a sheet. Chains and notes
+ * stand apart from their callers: put into the loop over sheets, sealing by byte
+ * tables takes 1.04 times as long.
+ */
 
 #define BY_WAY(way, call, ...)                                  \
     do {                                                        \
@@ -450,39 +509,59 @@ INLINE void crypt_bytes(int way, const struct schedule *s, const uint8_t *first_
             call(BY_RULES, __VA_ARGS__);                        \
     } while (0)
 
-static void expand_by(uint64_t way, const uint8_t *key, size_t key_len, struct schedule *s)
+static void expand_by(uint64_t way, const uint8_t *key, size_t key_len, uint32_t *words)
 {
-    BY_WAY(way, expand, key, key_len, s);
+    BY_WAY(way, expand, key, key_len, words);
+}
+
+typedef void one_call(uint64_t way, const uint8_t *words, int rounds, const uint8_t *block, uint8_t *out);
+
+static void encrypt_one_by(uint64_t way, const uint8_t *words, int rounds, const uint8_t *block, uint8_t *out)
+{
+    BY_WAY(way, encrypt_one, words, rounds, block, out);
+}
+
+static void decrypt_one_by(uint64_t way, const uint8_t *words, int rounds, const uint8_t *block, uint8_t *out)
+{
+    BY_WAY(way, decrypt_one, words, rounds, block, out);
 }
 
 typedef void chain_call(uint64_t way, const struct schedule *s, const uint8_t *iv,
                         const uint8_t *in, uint8_t *out, size_t blocks);
 
-static void encrypt_chain_by(uint64_t way, const struct schedule *s, const uint8_t *iv,
-                             const uint8_t *in, uint8_t *out, size_t blocks)
+APART void encrypt_chain_by(uint64_t way, const struct schedule *s, const uint8_t *iv,
+                            const uint8_t *in, uint8_t *out, size_t blocks)
 {
     BY_WAY(way, encrypt_chain, s, iv, in, out, blocks);
 }
 
-static void decrypt_chain_by(uint64_t way, const struct schedule *s, const uint8_t *iv,
-                             const uint8_t *in, uint8_t *out, size_t blocks)
+APART void decrypt_chain_by(uint64_t way, const struct schedule *s, const uint8_t *iv,
+                            const uint8_t *in, uint8_t *out, size_t blocks)
 {
     BY_WAY(way, decrypt_chain, s, iv, in, out, blocks);
 }
 
-static void crypt_bytes_by(uint64_t way, const struct schedule *s, const uint8_t *first_counter,
-                           const uint8_t *in, uint8_t *out, size_t len)
+APART void crypt_bytes_by(uint64_t way, const struct schedule *s, const uint8_t *first_counter,
+                          const uint8_t *in, uint8_t *out, size_t len)
 {
     BY_WAY(way, crypt_bytes, s, first_counter, in, out, len);
 }
 
 /* The checks. Each answers 0 or the number of the first check that fails. */
 
+static int check_way(uint64_t way)
+{
+    return way < 1 || way > 3 ? 2 : 0;
+}
+
 static int check_key_and_way(size_t key_len, uint64_t way)
 {
-    if (key_len != 16 && key_len != 24 && key_len != 32)
-        return 1;
-    return way < 1 || way > 3 ? 2 : 0;
+    return key_len != 16 && key_len != 24 && key_len != 32 ? 1 : check_way(way);
+}
+
+static int check_words_and_way(size_t words_len, uint64_t way)
+{
+    return words_len != 160 && words_len != 192 && words_len != 224 ? 14 : check_way(way);
 }
 
 static int entry_holds(const uint8_t *entry, uint32_t trial_before)
@@ -575,48 +654,45 @@ uint64_t plain_expand_key(const uint8_t *key, size_t key_len, uint64_t way,
     size_t count = 24 + key_len; /* 40, 48 or 56 words */
     if (out_len != 4 * count)
         return refused(4);
-    struct schedule s;
-    expand_by(way, key, key_len, &s);
-    store_words(out, s.words, count);
+    uint32_t words[MOST_WORDS];
+    expand_by(way, key, key_len, words);
+    store_words(out, words, count);
     return count;
 }
 
-static uint64_t block_call(chain_call *chain, const uint8_t *key, size_t key_len, uint64_t way,
+static uint64_t block_call(one_call *work, const uint8_t *words, size_t words_len, uint64_t way,
                            const uint8_t *block, size_t block_len, uint8_t *out, size_t out_len)
 {
-    static const uint8_t zero_iv[BLOCK];
-    int failed = check_key_and_way(key_len, way);
+    int failed = check_words_and_way(words_len, way);
     if (failed)
         return refused(failed);
     if (block_len != BLOCK)
         return refused(3);
     if (out_len != BLOCK)
         return refused(4);
-    struct schedule s;
-    expand_by(way, key, key_len, &s);
-    chain(way, &s, zero_iv, block, out, 1);
+    work(way, words, rounds_of(words_len), block, out);
     return 1;
 }
 
-uint64_t plain_encrypt_block(const uint8_t *key, size_t key_len, uint64_t way,
+uint64_t plain_encrypt_block(const uint8_t *words, size_t words_len, uint64_t way,
                              const uint8_t *block, size_t block_len,
                              uint8_t *out, size_t out_len)
 {
-    return block_call(encrypt_chain_by, key, key_len, way, block, block_len, out, out_len);
+    return block_call(encrypt_one_by, words, words_len, way, block, block_len, out, out_len);
 }
 
-uint64_t plain_decrypt_block(const uint8_t *key, size_t key_len, uint64_t way,
+uint64_t plain_decrypt_block(const uint8_t *words, size_t words_len, uint64_t way,
                              const uint8_t *block, size_t block_len,
                              uint8_t *out, size_t out_len)
 {
-    return block_call(decrypt_chain_by, key, key_len, way, block, block_len, out, out_len);
+    return block_call(decrypt_one_by, words, words_len, way, block, block_len, out, out_len);
 }
 
-/* Checks 1, 2 and 4 to 10, in this order. */
-static int check_book(size_t key_len, uint64_t way, uint8_t first, const uint8_t *book,
+/* Checks 14, 2 and 4 to 10, in this order. */
+static int check_book(size_t words_len, uint64_t way, uint8_t first, const uint8_t *book,
                       size_t book_len, size_t out_len, size_t *n, size_t *records)
 {
-    int failed = check_key_and_way(key_len, way);
+    int failed = check_words_and_way(words_len, way);
     if (failed)
         return failed;
     if (out_len != book_len)
@@ -625,11 +701,11 @@ static int check_book(size_t key_len, uint64_t way, uint8_t first, const uint8_t
 }
 
 /* Each sheet's body through its own chain. */
-static void chain_sheets(chain_call *chain, uint64_t way, const uint8_t *key, size_t key_len,
+static void chain_sheets(chain_call *chain, uint64_t way, const uint8_t *words, size_t words_len,
                          const uint8_t *contents, size_t n, const uint8_t *in, uint8_t *out)
 {
     struct schedule s;
-    expand_by(way, key, key_len, &s);
+    read_words(words, words_len, &s);
     for (const uint8_t *e = contents; e < contents + ENTRY * n; e += ENTRY) {
         size_t count = load_word(e + 4) >> 16;
         chain(way, &s, e + IV_AT, in, out, count);
@@ -638,12 +714,12 @@ static void chain_sheets(chain_call *chain, uint64_t way, const uint8_t *key, si
     }
 }
 
-uint64_t plain_encrypt_book(const uint8_t *key, size_t key_len, uint64_t way,
+uint64_t plain_encrypt_book(const uint8_t *words, size_t words_len, uint64_t way,
                             const uint8_t *book, size_t book_len,
                             uint8_t *out, size_t out_len)
 {
     size_t n, records;
-    int failed = check_book(key_len, way, CLEAR, book, book_len, out_len, &n, &records);
+    int failed = check_book(words_len, way, CLEAR, book, book_len, out_len, &n, &records);
     if (failed)
         return refused(failed);
     size_t start = HEAD + ENTRY * n;
@@ -651,7 +727,7 @@ uint64_t plain_encrypt_book(const uint8_t *key, size_t key_len, uint64_t way,
         return refused(11);
     memcpy(out, book, start);
     out[0] = SEALED;
-    chain_sheets(encrypt_chain_by, way, key, key_len, book + HEAD, n, book + start, out + start);
+    chain_sheets(encrypt_chain_by, way, words, words_len, book + HEAD, n, book + start, out + start);
     return records;
 }
 
@@ -660,17 +736,17 @@ uint64_t plain_encrypt_book(const uint8_t *key, size_t key_len, uint64_t way,
  * known to hold, since a refused call must not write. The array is wiped: the
  * clear plan is not left on the stack.
  */
-uint64_t plain_decrypt_book(const uint8_t *key, size_t key_len, uint64_t way,
+uint64_t plain_decrypt_book(const uint8_t *words, size_t words_len, uint64_t way,
                             const uint8_t *book, size_t book_len,
                             uint8_t *out, size_t out_len)
 {
     uint8_t work[MOST_BYTES];
     size_t n, records;
-    int failed = check_book(key_len, way, SEALED, book, book_len, out_len, &n, &records);
+    int failed = check_book(words_len, way, SEALED, book, book_len, out_len, &n, &records);
     if (failed)
         return refused(failed);
     size_t start = HEAD + ENTRY * n;
-    chain_sheets(decrypt_chain_by, way, key, key_len, book + HEAD, n, book + start, work);
+    chain_sheets(decrypt_chain_by, way, words, words_len, book + HEAD, n, book + start, work);
     int hold = records_hold(book + HEAD, n, work);
     if (hold) {
         memcpy(out, book, start);
@@ -681,12 +757,12 @@ uint64_t plain_decrypt_book(const uint8_t *key, size_t key_len, uint64_t way,
     return hold ? records : refused(11);
 }
 
-uint64_t plain_crypt_note(const uint8_t *key, size_t key_len, uint64_t way,
+uint64_t plain_crypt_note(const uint8_t *words, size_t words_len, uint64_t way,
                           const uint8_t *counter, size_t counter_len,
                           const uint8_t *note, size_t note_len,
                           uint8_t *out, size_t out_len)
 {
-    int failed = check_key_and_way(key_len, way);
+    int failed = check_words_and_way(words_len, way);
     if (failed)
         return refused(failed);
     if (counter_len != BLOCK)
@@ -696,7 +772,7 @@ uint64_t plain_crypt_note(const uint8_t *key, size_t key_len, uint64_t way,
     if (note_len > MOST_NOTE_BYTES)
         return refused(12);
     struct schedule s;
-    expand_by(way, key, key_len, &s);
+    read_words(words, words_len, &s);
     crypt_bytes_by(way, &s, counter, note, out, note_len);
     return note_len;
 }

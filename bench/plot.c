@@ -101,7 +101,7 @@ static void draw_ratios(FILE *f)
         }
     struct panel p = {f, TOP, 0, high, 0, SHOWN_COUNT + 1, 0, "%.2f"};
     text(f, LEFT, TOP - 26, "font-weight=\"bold\"",
-         "Time of the library over time of plain C (1 is equal, lower is faster), 16-byte key; a page has none");
+         "Time of the library over time of plain C (1 is equal, lower is faster), a 16-byte key and its words; a page has none");
     for (double at = 0; at <= high; at += 0.5)
         line_at(&p, at, at == 1 ? "stroke=\"#333333\" stroke-dasharray=\"5 3\"" : "stroke=\"#dddddd\"");
     for (int i = 0; i < SHOWN_COUNT; i++)
@@ -127,7 +127,7 @@ static void draw_times(FILE *f, const struct scale *scales, size_t scale_count)
     static const int colours[2] = {1, 3};
     struct panel p = {f, TOP + PANEL, 1, 10000, 1, WAYS + (int)scale_count, 0, "%.0f"};
     text(f, LEFT, TOP + PANEL - 26, "font-weight=\"bold\"",
-         "Nanoseconds a record in the largest book, 16-byte key (logarithmic; OpenSSL's ciphers for scale)");
+         "Nanoseconds a record in the largest book, words of a 16-byte key (logarithmic; OpenSSL's ciphers for scale)");
     for (double ns = 1; ns <= 10000; ns *= 10)
         line_at(&p, ns, "stroke=\"#dddddd\"");
     way_bars(&p, "way 1", 1);

@@ -27,7 +27,8 @@ static void print_run(const struct disturbance *d)
 static void print_task(const struct task *t)
 {
     static const char *names[] = {"expand a key", "encrypt one block", "decrypt one block",
-                                  "seal a book", "open a book", "a note", "a page"};
+                                  "seal a book", "open a book", "a note", "a page",
+                                  "expand a key for each book and seal", "expand a key once and seal"};
     if (t->kind == PAGE)
         printf("| none | none | %s", names[t->kind]);
     else
@@ -36,19 +37,47 @@ static void print_task(const struct task *t)
         printf(" of %zu bytes, a block of 16", 16 * t->blocks);
     else if (t->kind == PAGE)
         printf(" of %zu records, a line", t->blocks);
+    else if (t->kind == BOOKS_EACH || t->kind == BOOKS_ONCE)
+        printf(" %d books of %zu records, a book", MANY_BOOKS, t->blocks);
     else if (t->blocks > 0)
         printf(" of %zu records, a record", t->blocks);
     printf(" | %.1f | %.1f | %.3f |\n", task_ns(t, LIBRARY), task_ns(t, PLAIN),
            median_ratio(t->ns[LIBRARY], t->ns[PLAIN]));
 }
 
+static void print_rows(size_t from, size_t to)
+{
+    for (size_t i = from; i < to; i++)
+        print_task(&tasks[i]);
+}
+
 static void print_tasks(const char *columns)
 {
     printf("| key bytes | way | measured | %s |\n|---:|---:|---|---:|---:|---:|\n", columns);
-    for (size_t i = 0; i < MAIN_TASKS; i++)
-        print_task(&tasks[i]);
-    for (size_t i = FIRST_PAGE; i < task_count; i++)
-        print_task(&tasks[i]);
+    print_rows(0, MAIN_TASKS);
+    print_rows(FIRST_PAGE, task_count);
+}
+
+/* In microseconds for all books. */
+static void print_saved_by(const struct task *each, const struct task *once, enum side side)
+{
+    printf(" %.0f | %.0f | %.3f |", median(each->ns[side]) / 1e3, median(once->ns[side]) / 1e3,
+           median_ratio(once->ns[side], each->ns[side]));
+}
+
+static void print_saved(void)
+{
+    printf("| key bytes | way | library, for each book | library, once | once / each | C, for each book | C, once | once / each |\n"
+           "|---:|---:|---:|---:|---:|---:|---:|---:|\n");
+    for (size_t key_len = 16; key_len <= 32; key_len += 8)
+        for (uint64_t way = 1; way <= WAYS; way++) {
+            const struct task *each = find_task(BOOKS_EACH, SMALL_BOOK, key_len, way);
+            const struct task *once = find_task(BOOKS_ONCE, SMALL_BOOK, key_len, way);
+            printf("| %zu | %d |", key_len, (int)way);
+            print_saved_by(each, once, LIBRARY);
+            print_saved_by(each, once, PLAIN);
+            printf("\n");
+        }
 }
 
 static void print_packed(void)
@@ -112,6 +141,9 @@ int print_report(const struct disturbance *d, const struct scale *scales, size_t
     print_run(d);
     printf("\n");
     print_tasks("library ns | plain C ns | library / C");
+    printf("\nWhat preparing once saves: %d books of %d records sealed under one key, which is expanded for each book or once, µs for all:\n\n",
+           MANY_BOOKS, SMALL_BOOK);
+    print_saved();
     printf("\nPlain C with four bytes doubled in one word, which no limit is about:\n\n");
     print_packed();
     printf("\nThe lines of a page by other means, which no limit is about either:\n\n");
@@ -124,10 +156,13 @@ int print_report(const struct disturbance *d, const struct scale *scales, size_t
     return print_limits();
 }
 
-void print_beside(const struct disturbance *d)
+void print_beside(const struct disturbance *d, int before_takes_keys)
 {
     print_machine();
     print_run(d);
+    if (before_takes_keys)
+        printf("- Before: a library that takes keys. Each of its calls is given the key and expands it, where that of now is given words\n");
     printf("\n");
     print_tasks("now, ns | before, ns | now / before");
+    print_rows(MAIN_TASKS, FIRST_GROWTH);
 }

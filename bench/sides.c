@@ -6,9 +6,9 @@
 
 typedef uint64_t expand_call(const uint8_t *key, size_t key_len, uint64_t way,
                              uint8_t *out, size_t out_len);
-typedef uint64_t keyed_call(const uint8_t *key, size_t key_len, uint64_t way,
+typedef uint64_t words_call(const uint8_t *words, size_t words_len, uint64_t way,
                             const uint8_t *in, size_t in_len, uint8_t *out, size_t out_len);
-typedef uint64_t note_call(const uint8_t *key, size_t key_len, uint64_t way,
+typedef uint64_t note_call(const uint8_t *words, size_t words_len, uint64_t way,
                            const uint8_t *counter, size_t counter_len,
                            const uint8_t *note, size_t note_len, uint8_t *out, size_t out_len);
 typedef uint64_t page_call(const uint8_t *book, size_t book_len, uint64_t sheet, uint8_t *out, size_t out_len);
@@ -16,9 +16,10 @@ typedef uint64_t page_call(const uint8_t *book, size_t book_len, uint64_t sheet,
 /* Where a side has no such call, null. */
 struct calls {
     expand_call *expand_key;
-    keyed_call *encrypt_block, *decrypt_block, *encrypt_book, *decrypt_book;
+    words_call *encrypt_block, *decrypt_block, *encrypt_book, *decrypt_book;
     note_call *crypt_note;
     page_call *page;
+    int takes_keys; /* in place of words: a library before 3.0.0, which expands the key in every call */
 };
 
 /* bench/run has another name for it where an earlier library has no such call. */
@@ -26,11 +27,11 @@ struct calls {
 #define PLAIN_PAGE plain_page
 #endif
 
-static const struct calls sides[SIDES] = {
+static struct calls sides[SIDES] = {
     [LIBRARY] = {planbook_expand_key, planbook_encrypt_block, planbook_decrypt_block,
-                 planbook_encrypt_book, planbook_decrypt_book, planbook_crypt_note, planbook_page},
+                 planbook_encrypt_book, planbook_decrypt_book, planbook_crypt_note, planbook_page, 0},
     [PLAIN] = {plain_expand_key, plain_encrypt_block, plain_decrypt_block,
-               plain_encrypt_book, plain_decrypt_book, plain_crypt_note, PLAIN_PAGE},
+               plain_encrypt_book, plain_decrypt_book, plain_crypt_note, PLAIN_PAGE, 0},
     [PACKED] = {.encrypt_book = packed_encrypt_book, .page = packed_page},
     [PRINTED] = {.page = printed_page},
 };
@@ -38,6 +39,53 @@ static const struct calls sides[SIDES] = {
 int sides_have_pages(void)
 {
     return sides[PLAIN].page != NULL;
+}
+
+int other_side_takes_keys(void)
+{
+    return sides[PLAIN].takes_keys;
+}
+
+/* A side that takes keys takes any words for a key of a wrong length. */
+static int refuses_words(const struct calls *s)
+{
+    static const uint8_t words[PLANBOOK_EXPANDED128_BYTES];
+    uint8_t out[16];
+    return s->encrypt_block(words, sizeof words, 1, words, 16, out, 16) == (uint64_t)PLANBOOK_CHECK_KEY_LENGTH << 32;
+}
+
+/* What a call is lent first: words, or the key where the side takes keys. */
+struct lent {
+    const uint8_t *bytes;
+    size_t len;
+};
+
+/* The words by the side's own expanding, which have their room with the caller. */
+static struct lent lend(const struct calls *s, const uint8_t *key, size_t key_len, uint64_t way, uint8_t *words)
+{
+    size_t len = planbook_expanded_length(key_len);
+    if (s->takes_keys)
+        return (struct lent){key, key_len};
+    if (s->expand_key(key, key_len, way, words, len) != len / 4)
+        stop("a side does not expand a key");
+    return (struct lent){words, len};
+}
+
+/* Held to the lengths of words, by calls in which all else is wrong: check 14 comes before the others, and check 2 next. */
+static void check_lengths(const struct calls *s)
+{
+    static const uint8_t any[PLANBOOK_MAX_EXPANDED_BYTES + 1];
+    words_call *const calls[] = {s->encrypt_block, s->decrypt_block, s->encrypt_book, s->decrypt_book};
+    uint8_t out[1];
+    for (size_t len = 0; len <= sizeof any; len++) {
+        int permitted = len == PLANBOOK_EXPANDED128_BYTES || len == PLANBOOK_EXPANDED192_BYTES || len == PLANBOOK_EXPANDED256_BYTES;
+        uint64_t answer = (uint64_t)(permitted ? PLANBOOK_CHECK_WAY : PLANBOOK_CHECK_WORDS_LENGTH) << 32;
+        int same = s->crypt_note(any, len, 0, any, 0, any, 0, out, 1) == answer;
+        for (size_t i = 0; i < sizeof calls / sizeof calls[0]; i++)
+            same &= calls[i](any, len, 0, any, 0, out, 1) == answer;
+        if (!same)
+            stop("a side does not refuse words as it must");
+    }
 }
 
 /* Held to the vectors of the CLEFIA specification 1.0, section 2.5. */
@@ -60,17 +108,17 @@ static void check_vectors(const struct calls *s)
 {
     for (size_t k = 0; k < KEY_LENGTHS; k++)
         for (uint64_t way = 1; way <= WAYS; way++) {
-            uint8_t out[16], back[16];
-            size_t key_len = 16 + 8 * k;
-            if (s->encrypt_block(vector_key, key_len, way, vector_clear, 16, out, 16) != 1
-                || s->decrypt_block(vector_key, key_len, way, out, 16, back, 16) != 1
+            uint8_t words[PLANBOOK_MAX_EXPANDED_BYTES], out[16], back[16];
+            struct lent w = lend(s, vector_key, 16 + 8 * k, way, words);
+            if (s->encrypt_block(w.bytes, w.len, way, vector_clear, 16, out, 16) != 1
+                || s->decrypt_block(w.bytes, w.len, way, out, 16, back, 16) != 1
                 || memcmp(out, vector_encrypted[k], 16) != 0 || memcmp(back, vector_clear, 16) != 0)
                 stop("a side does not give the published test vectors");
         }
 }
 
 /*
- * Held to a note under the 16-byte key, worked out by another program. Its counter
+ * Held to a note under the words of the 16-byte key, worked out by another program. Its counter
  * blocks go on at zero within the first four; then come a whole block and a part.
  */
 
@@ -96,13 +144,15 @@ static size_t make_note(uint8_t *note, size_t len)
 static void check_note(const struct calls *s)
 {
     enum { LEN = sizeof vector_note };
-    uint8_t note[LEN], out[LEN], back[LEN];
+    uint8_t note[LEN], out[LEN], back[LEN], words[PLANBOOK_MAX_EXPANDED_BYTES];
     make_note(note, LEN);
-    for (uint64_t way = 1; way <= WAYS; way++)
-        if (s->crypt_note(vector_key, 16, way, vector_counter, 16, note, LEN, out, LEN) != LEN
-            || s->crypt_note(vector_key, 16, way, vector_counter, 16, out, LEN, back, LEN) != LEN
+    for (uint64_t way = 1; way <= WAYS; way++) {
+        struct lent w = lend(s, vector_key, 16, way, words);
+        if (s->crypt_note(w.bytes, w.len, way, vector_counter, 16, note, LEN, out, LEN) != LEN
+            || s->crypt_note(w.bytes, w.len, way, vector_counter, 16, out, LEN, back, LEN) != LEN
             || memcmp(out, vector_note, LEN) != 0 || memcmp(back, note, LEN) != 0)
             stop("a side does not give the note's vector");
+    }
 }
 
 static void check_constants(void)
@@ -151,7 +201,7 @@ static struct record planned(size_t sheet, uint32_t place)
 {
     uint32_t corner = 1 + 239 * (uint32_t)sheet;
     struct record r = {trial_of(sheet), 1 + place * 7919 % 100000, 1 + place % 4, corner + place / 40, corner + place % 40, 0};
-    if (drawn_plots[place] < 16)
+    if (drawn_plots[place % sizeof drawn_plots] < 16)
         r.row = r.column = 0;
     return r;
 }
@@ -174,6 +224,22 @@ static size_t make_book(uint8_t *book, size_t records)
             put_record(at, planned(s, (uint32_t)i));
     }
     return (size_t)(at - book);
+}
+
+/* Many books of one sheet each, whose start blocks and records differ. */
+
+enum { BOOK_IV_AT = 12, BOOK_RECORDS_AT = 28, SMALL_BOOK_BYTES = BOOK_RECORDS_AT + 16 * SMALL_BOOK };
+
+static size_t make_books(uint8_t *books, const uint8_t start_blocks[][16])
+{
+    uint8_t *at = books;
+    for (uint32_t b = 0; b < MANY_BOOKS; b++, at += SMALL_BOOK_BYTES) {
+        make_book(at, SMALL_BOOK);
+        memcpy(at + BOOK_IV_AT, start_blocks[b], 16);
+        for (uint32_t i = 0; i < SMALL_BOOK; i++)
+            put_record(at + BOOK_RECORDS_AT + 16 * i, planned(0, SMALL_BOOK * b + i));
+    }
+    return (size_t)(at - books);
 }
 
 /* Held to two pages that were typed out, and to the checks and their order. */
@@ -239,7 +305,12 @@ static void check_page(const struct calls *s)
 
 void check_sides(void)
 {
+    if (refuses_words(&sides[LIBRARY]))
+        stop("the library takes keys and not words: it is of a version before 3.0.0");
+    sides[PLAIN].takes_keys = refuses_words(&sides[PLAIN]);
     for (int side = LIBRARY; side <= PLAIN; side++) {
+        if (!sides[side].takes_keys)
+            check_lengths(&sides[side]);
         check_vectors(&sides[side]);
         check_note(&sides[side]);
     }
@@ -266,16 +337,17 @@ static const struct {
 
 static int judges_so(const struct calls *s, struct record r, uint64_t answer)
 {
-    enum { LEN = 44, IV_AT = 12, RECORD_AT = 28, WAY = PLANBOOK_WAY_WORD_TABLES, PAGE_LEN = 2 * PLANBOOK_LINE_BYTES };
-    uint8_t book[LEN], sealed[LEN], before[16], out[PAGE_LEN];
+    enum { LEN = BOOK_RECORDS_AT + 16, WAY = PLANBOOK_WAY_WORD_TABLES, PAGE_LEN = 2 * PLANBOOK_LINE_BYTES };
+    uint8_t book[LEN], sealed[LEN], before[16], out[PAGE_LEN], words[PLANBOOK_MAX_EXPANDED_BYTES];
+    struct lent w = lend(&sides[PLAIN], vector_key, 16, WAY, words);
     make_book(book, 1);
-    plain_encrypt_book(vector_key, 16, WAY, book, LEN, sealed, LEN);
-    memcpy(before, book + RECORD_AT, sizeof before);
-    put_record(book + RECORD_AT, r);
+    plain_encrypt_book(w.bytes, w.len, WAY, book, LEN, sealed, LEN);
+    memcpy(before, book + BOOK_RECORDS_AT, sizeof before);
+    put_record(book + BOOK_RECORDS_AT, r);
     for (int i = 0; i < 16; i++)
-        sealed[IV_AT + i] ^= before[i] ^ book[RECORD_AT + i];
-    return (s->encrypt_book == NULL || s->encrypt_book(vector_key, 16, WAY, book, LEN, out, LEN) == answer)
-        && (s->decrypt_book == NULL || s->decrypt_book(vector_key, 16, WAY, sealed, LEN, out, LEN) == answer)
+        sealed[BOOK_IV_AT + i] ^= before[i] ^ book[BOOK_RECORDS_AT + i];
+    return (s->encrypt_book == NULL || s->encrypt_book(w.bytes, w.len, WAY, book, LEN, out, LEN) == answer)
+        && (s->decrypt_book == NULL || s->decrypt_book(w.bytes, w.len, WAY, sealed, LEN, out, LEN) == answer)
         && (s->page == NULL || s->page(book, LEN, 0, out, PAGE_LEN) == (answer == 1 ? 2 : answer));
 }
 
@@ -288,15 +360,22 @@ void check_rule(void)
 }
 
 /*
- * The calls of a task, on buffers that are made ready once. Key and block change
- * from call to call: of one that comes again and again the processor would learn
- * the branches, and a loop whose length hangs on secret bits would look fast.
+ * The calls of a task, on buffers that are made ready once. Key, words and block
+ * change from call to call: of one that comes again and again the processor would
+ * learn the branches, and a loop whose length hangs on secret bits would look fast.
  */
 
-enum { DRAWN = 1024 };
-static uint8_t drawn_keys[DRAWN][32], drawn_blocks[DRAWN][16];
-static uint8_t input[PLANBOOK_MAX_BOOK_BYTES], output[SIDES][PLANBOOK_MAX_BOOK_BYTES];
+enum { DRAWN = 1024, MOST_BYTES = MANY_BOOKS * SMALL_BOOK_BYTES };
+static uint8_t drawn_keys[DRAWN][PLANBOOK_MAX_KEY_BYTES], drawn_blocks[DRAWN][16];
+static uint8_t drawn_words[KEY_LENGTHS][DRAWN][PLANBOOK_MAX_EXPANDED_BYTES];
+static uint8_t input[MOST_BYTES], output[SIDES][MOST_BYTES];
 static size_t input_len, output_len;
+
+/* What a side's call of number 0 is lent, and how far on that of the next one lies. */
+static struct {
+    struct lent first;
+    size_t stride;
+} lent[SIDES];
 
 /* Marsaglia's xorshift, always from the same start. */
 static void draw(uint8_t *bytes, size_t len)
@@ -308,51 +387,101 @@ static void draw(uint8_t *bytes, size_t len)
     }
 }
 
+static void expand_drawn_keys(void)
+{
+    for (size_t k = 0; k < KEY_LENGTHS; k++)
+        for (size_t i = 0; i < DRAWN; i++) {
+            uint8_t theirs[PLANBOOK_MAX_EXPANDED_BYTES], *words = drawn_words[k][i];
+            size_t key_len = 16 + 8 * k, len = planbook_expanded_length(key_len);
+            if (planbook_expand_key(drawn_keys[i], key_len, PLANBOOK_WAY_WORD_TABLES, words, len) != len / 4
+                || plain_expand_key(drawn_keys[i], key_len, PLANBOOK_WAY_WORD_TABLES, theirs, len) != len / 4
+                || memcmp(words, theirs, len) != 0)
+                stop("the sides differ in the words of a key");
+        }
+}
+
 void draw_inputs(void)
 {
     draw(drawn_keys[0], sizeof drawn_keys);
     draw(drawn_blocks[0], sizeof drawn_blocks);
     draw(drawn_plots, sizeof drawn_plots);
+    expand_drawn_keys();
+}
+
+static size_t make_input(const struct task *t)
+{
+    if (t->kind == BOOKS_EACH || t->kind == BOOKS_ONCE)
+        return make_books(input, drawn_blocks);
+    if (t->kind == CRYPT_NOTE)
+        return make_note(input, 16 * t->blocks);
+    return t->blocks > 0 ? make_book(input, t->blocks) : 16;
+}
+
+/* A page has no key. */
+static void make_words_ready(const struct task *t)
+{
+    size_t len = planbook_expanded_length(t->key_len);
+    for (int side = 0; side < SIDES && len > 0; side++) {
+        lent[side].first = sides[side].takes_keys ? (struct lent){drawn_keys[0], t->key_len}
+                                                  : (struct lent){drawn_words[t->key_len / 8 - 2][0], len};
+        lent[side].stride = sides[side].takes_keys ? sizeof drawn_keys[0] : sizeof drawn_words[0][0];
+    }
 }
 
 void make_ready(const struct task *t)
 {
-    input_len = output_len = 16;
+    make_words_ready(t);
+    input_len = output_len = make_input(t);
     if (t->kind == EXPAND_KEY)
-        output_len = 4 * (24 + t->key_len);
-    else if (t->kind == CRYPT_NOTE)
-        input_len = output_len = make_note(input, 16 * t->blocks);
-    else if (t->blocks > 0)
-        input_len = output_len = make_book(input, t->blocks);
+        output_len = planbook_expanded_length(t->key_len);
     if (t->kind == PAGE)
         output_len = PLANBOOK_LINE_BYTES * (t->blocks + 1);
     if (t->kind == DECRYPT_BOOK) {
-        plain_encrypt_book(drawn_keys[0], t->key_len, PLANBOOK_WAY_WORD_TABLES, input, input_len,
+        plain_encrypt_book(lent[PLAIN].first.bytes, lent[PLAIN].first.len, PLANBOOK_WAY_WORD_TABLES, input, input_len,
                            output[0], input_len);
         memcpy(input, output[0], input_len);
     }
+}
+
+/* Answers the records of all books. */
+static uint64_t seal_books(const struct task *t, const struct calls *s, const uint8_t *key, uint8_t *out)
+{
+    uint8_t words[PLANBOOK_MAX_EXPANDED_BYTES];
+    struct lent w = {NULL, 0};
+    uint64_t answers = 0;
+    for (size_t at = 0; at < input_len; at += SMALL_BOOK_BYTES) {
+        if (at == 0 || t->kind == BOOKS_EACH)
+            w = lend(s, key, t->key_len, t->way, words);
+        answers += s->encrypt_book(w.bytes, w.len, t->way, input + at, SMALL_BOOK_BYTES, out + at, SMALL_BOOK_BYTES);
+    }
+    return answers;
 }
 
 uint64_t call(const struct task *t, enum side side, size_t number)
 {
     const struct calls *s = &sides[side];
     const uint8_t *key = drawn_keys[number % DRAWN], *block = drawn_blocks[number % DRAWN];
+    const uint8_t *first = lent[side].first.bytes, *words = first + lent[side].stride * (number % DRAWN);
+    size_t words_len = lent[side].first.len;
     uint8_t *out = output[side];
     switch (t->kind) {
     case EXPAND_KEY:
         return s->expand_key(key, t->key_len, t->way, out, output_len);
     case ENCRYPT_BLOCK:
-        return s->encrypt_block(key, t->key_len, t->way, block, input_len, out, output_len);
+        return s->encrypt_block(words, words_len, t->way, block, input_len, out, output_len);
     case DECRYPT_BLOCK:
-        return s->decrypt_block(key, t->key_len, t->way, block, input_len, out, output_len);
+        return s->decrypt_block(words, words_len, t->way, block, input_len, out, output_len);
     case ENCRYPT_BOOK:
-        return s->encrypt_book(key, t->key_len, t->way, input, input_len, out, output_len);
-    case DECRYPT_BOOK: /* opens under the key that sealed it */
-        return s->decrypt_book(drawn_keys[0], t->key_len, t->way, input, input_len, out, output_len);
+        return s->encrypt_book(words, words_len, t->way, input, input_len, out, output_len);
+    case DECRYPT_BOOK: /* opens under the words that sealed it */
+        return s->decrypt_book(first, words_len, t->way, input, input_len, out, output_len);
+    case BOOKS_EACH:
+    case BOOKS_ONCE:
+        return seal_books(t, s, key, out);
     case PAGE:
         return s->page(input, input_len, 0, out, output_len);
     default:
-        return s->crypt_note(key, t->key_len, t->way, vector_counter, 16, input, input_len, out, output_len);
+        return s->crypt_note(words, words_len, t->way, vector_counter, 16, input, input_len, out, output_len);
     }
 }
 

@@ -56,6 +56,11 @@ void list_tasks(int with_pages)
             add_task(CRYPT_NOTE, SHORT_NOTE, key_len, way);
             add_task(CRYPT_NOTE, LONGEST_NOTE, key_len, way);
         }
+    for (size_t key_len = 16; key_len <= 32; key_len += 8)
+        for (uint64_t way = 1; way <= WAYS; way++) {
+            add_task(BOOKS_EACH, SMALL_BOOK, key_len, way);
+            add_task(BOOKS_ONCE, SMALL_BOOK, key_len, way);
+        }
     for (size_t i = 0; i < GROWTH_SIZES; i++) {
         add_task(ENCRYPT_BOOK, growth_records[i], 16, 2);
         add_task(DECRYPT_BOOK, growth_records[i], 16, 2);
@@ -91,6 +96,8 @@ double median_ratio(const double *above, const double *below)
 /* What a call's time is divided by. A page has a heading too. */
 static size_t parts(const struct task *t)
 {
+    if (t->kind == BOOKS_EACH || t->kind == BOOKS_ONCE)
+        return MANY_BOOKS;
     return t->kind == PAGE ? t->blocks + 1 : t->blocks > 0 ? t->blocks : 1;
 }
 

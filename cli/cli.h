@@ -214,13 +214,17 @@ void put_record(uint8_t *at, const struct record *record);
 
 /* library.c */
 
-typedef uint64_t book_call(const uint8_t *key, size_t key_len, uint64_t way, const uint8_t *book, size_t book_len,
+typedef uint64_t book_call(const uint8_t *words, size_t words_len, uint64_t way, const uint8_t *book, size_t book_len,
                            uint8_t *out, size_t out_len);
 
-/* One call for a book, a page or a note; answers its check. Whatever it left on the stack is wiped. */
-uint32_t call_library(book_call *call, struct bytes key, uint64_t way, struct bytes book, struct bytes out);
+/*
+ * One call for a key's words, a book, a page or a note; answers its check. Whatever it left on the stack is wiped. The words
+ * are the expanded key, and as secret as the key.
+ */
+uint32_t call_for_words(struct bytes key, uint64_t way, struct bytes out);
+uint32_t call_library(book_call *call, struct bytes words, uint64_t way, struct bytes book, struct bytes out);
 uint32_t call_for_page(struct bytes book, uint64_t sheet, struct bytes out);
-uint32_t call_for_note(struct bytes key, uint64_t way, struct bytes counter, struct bytes note, struct bytes out);
+uint32_t call_for_note(struct bytes words, uint64_t way, struct bytes counter, struct bytes note, struct bytes out);
 
 /* The check at which the library refuses a clear or a sealed book, or 0. No key is needed for either. */
 uint32_t check_clear_book(struct bytes book);

@@ -3,10 +3,17 @@
 
 #include <string.h>
 
-uint32_t call_library(book_call *call, struct bytes key, uint64_t way, struct bytes book, struct bytes out)
+uint32_t call_for_words(struct bytes key, uint64_t way, struct bytes out)
 {
-    uint64_t answer = call(key.at, key.len, way, book.at, book.len, out.at, out.len);
-    planbook_wipe_stack(); /* the key and the words made of it lie there */
+    uint64_t answer = planbook_expand_key(key.at, key.len, way, out.at, out.len);
+    planbook_wipe_stack(); /* the key and its words lie there */
+    return planbook_check(answer);
+}
+
+uint32_t call_library(book_call *call, struct bytes words, uint64_t way, struct bytes book, struct bytes out)
+{
+    uint64_t answer = call(words.at, words.len, way, book.at, book.len, out.at, out.len);
+    planbook_wipe_stack(); /* the words lie there */
     return planbook_check(answer);
 }
 
@@ -17,20 +24,20 @@ uint32_t call_for_page(struct bytes book, uint64_t sheet, struct bytes out)
     return planbook_check(answer);
 }
 
-uint32_t call_for_note(struct bytes key, uint64_t way, struct bytes counter, struct bytes note, struct bytes out)
+uint32_t call_for_note(struct bytes words, uint64_t way, struct bytes counter, struct bytes note, struct bytes out)
 {
     uint64_t answer =
-        planbook_crypt_note(key.at, key.len, way, counter.at, counter.len, note.at, note.len, out.at, out.len);
+        planbook_crypt_note(words.at, words.len, way, counter.at, counter.len, note.at, note.len, out.at, out.len);
     planbook_wipe_stack(); /* as for a book */
     return planbook_check(answer);
 }
 
-/* Checks 5 to 10 do not depend on the key, and for a clear book 11 does not either, so any key serves. */
+/* Checks 5 to 10 do not depend on the words, and for a clear book 11 does not either, so any words serve. */
 static uint32_t check_by(book_call *call, struct bytes book)
 {
-    static uint8_t any_key[PLANBOOK_KEY128_BYTES];
+    static uint8_t any_words[PLANBOOK_EXPANDED128_BYTES];
     struct bytes dropped = new_bytes(book.len);
-    uint32_t check = call_library(call, (struct bytes){any_key, sizeof any_key}, PLANBOOK_WAY_WORD_TABLES, book, dropped);
+    uint32_t check = call_library(call, (struct bytes){any_words, sizeof any_words}, PLANBOOK_WAY_WORD_TABLES, book, dropped);
     release(&dropped);
     return check;
 }

@@ -1,6 +1,6 @@
 /*
- * Memory for keys, books and text. The command asks for all of it here, and it is wiped before it is given back: by release,
- * or when the command ends, by whatever way.
+ * Memory for keys, their words, books and text. The command asks for all of it here, and it is wiped before it is given back: by
+ * release, or when the command ends, by whatever way.
  */
 #define _DEFAULT_SOURCE
 #include "cli.h"

@@ -60,7 +60,7 @@ void outputs_prepare(void)
         if (sigaction(signals[i], NULL, &before) == 0 && before.sa_handler != SIG_IGN)
             sigaction(signals[i], &ending, NULL);
     signal(SIGXFSZ, SIG_IGN);                       /* a file size limit then shows as an error of write */
-    setrlimit(RLIMIT_CORE, &(struct rlimit){0, 0}); /* the key would be in a core dump */
+    setrlimit(RLIMIT_CORE, &(struct rlimit){0, 0}); /* the key or its words would be in a core dump */
     atexit(remove_unfinished);
 }
 

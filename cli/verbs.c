@@ -145,25 +145,31 @@ static void expect_two_places(const struct arguments *given)
         fail("plan and trials cannot both go to standard output");
 }
 
-/* The end of a keyed call: what the library refused of key and way is told, and the key is wiped. */
-static void end_keyed_call(const struct arguments *given, struct bytes *key, uint32_t check)
+/* The words of the key given. What the library refuses of key and way is told, and the key is wiped: only its words are used. */
+static struct bytes expanded_key(const struct arguments *given, uint64_t way)
 {
+    struct bytes key = given_key(given);
+    struct bytes key_words = new_bytes(planbook_expanded_length(key.len));
+    uint32_t check = call_for_words(key, way, key_words);
     if (check == PLANBOOK_CHECK_KEY_LENGTH)
-        refuse(check, "the key in %s is %s bytes long, not 16, 24 or 32", key_title(given), grouped(key->len));
+        refuse(check, "the key in %s is %s bytes long, not 16, 24 or 32", key_title(given), grouped(key.len));
     if (check == PLANBOOK_CHECK_WAY)
         refuse(check, "--way %s: the ways are 1, 2 and 3", given->value[WAY]);
-    release(key);
+    if (check != PLANBOOK_ACCEPTED) /* never: but nothing may be sealed under words that were not written */
+        refuse(check, "the key in %s: %s", key_title(given), planbook_check_sentence(check));
+    release(&key);
+    return key_words;
 }
 
-/* A keyed call for a book; what the library refuses of the book is told by refuse_book. */
+/* A call for a book under the key given; what the library refuses of the book is told by refuse_book. */
 static struct bytes recode(const struct arguments *given, book_call *call, struct bytes book,
                            void refuse_book(const char *, struct bytes, uint32_t))
 {
     uint64_t way = given_way(given);
-    struct bytes key = given_key(given);
+    struct bytes key_words = expanded_key(given, way);
     struct bytes out = new_bytes(book.len);
-    uint32_t check = call_library(call, key, way, book, out);
-    end_keyed_call(given, &key, check);
+    uint32_t check = call_library(call, key_words, way, book, out);
+    release(&key_words);
     if (check != PLANBOOK_ACCEPTED)
         refuse_book(input_title(given->words[0]), book, check);
     return out;
@@ -173,10 +179,10 @@ static struct bytes recode(const struct arguments *given, book_call *call, struc
 static struct bytes crypt_note(const struct arguments *given, struct bytes counter, struct bytes note)
 {
     uint64_t way = given_way(given);
-    struct bytes key = given_key(given);
+    struct bytes key_words = expanded_key(given, way);
     struct bytes out = new_bytes(note.len);
-    uint32_t check = call_for_note(key, way, counter, note, out);
-    end_keyed_call(given, &key, check);
+    uint32_t check = call_for_note(key_words, way, counter, note, out);
+    release(&key_words);
     if (check != PLANBOOK_ACCEPTED)
         refuse_note(input_title(given->words[0]), counter, check);
     return out;

@@ -1,7 +1,7 @@
 #!/bin/sh
 # The main job from end to end, on the plan beside this script: a key, a plan sealed in one step, its digest compared, its labels,
 # the plan opened again; a note sealed and opened. Then the steps one by one, the planting page of a trial, and the book sealed by every
-# way and by the C program of the README.
+# way, and with a second book by the C program of the README.
 # usage: demo.sh COMMAND PROGRAM FOLDER  (the command planbook, the program seal_book, a folder for the books)
 set -eu
 [ $# -eq 3 ] || { echo "usage: demo.sh COMMAND PROGRAM FOLDER" >&2; exit 2; }
@@ -80,12 +80,19 @@ same "$books/sealed-1.book" "$books/sealed-2.book"
 same "$books/sealed-1.book" "$books/sealed-3.book"
 echo "The three sealed books are equal byte for byte."
 
-say "The C program of the README seals it too"
-"$program" <"$books/clear.book" >"$books/program.book"
-same "$books/program.book" "$books/sealed-2.book"
-echo "Its book is the same one."
+say "A second book of the same plan, with start blocks of its own"
+run pack --trials "$here/trials.csv" "$here/plan.csv" "$books/second.book"
+run seal --key-hex "$books/example-key-not-secret.hex" "$books/second.book" "$books/sealed-second.book"
 
-say "It is opened again, and the plan shown"
+say "The C program of the README expands the key once, and seals both books with it"
+set -- "$books/clear.book" "$books/program.book" "$books/second.book" "$books/program-second.book"
+echo "$ seal_book $*"
+"$program" "$@"
+same "$books/program.book" "$books/sealed-2.book"
+same "$books/program-second.book" "$books/sealed-second.book"
+echo "Its two books are those of the command, byte for byte."
+
+say "The first of them is opened again, and the plan shown"
 run open --key-hex "$books/example-key-not-secret.hex" "$books/sealed-2.book" "$books/opened.book"
 same "$books/opened.book" "$books/clear.book"
 echo "The opened book is the clear one, byte for byte."

@@ -1,18 +1,39 @@
-/* Seals the clear book on standard input; the sealed book goes to standard output. */
+/* Seals clear books, each into the file named after it, under one key that is expanded once. */
 #include <planbook.h>
 #include <stdio.h>
 
-int main(void)
+static int seal(const uint8_t *words, size_t words_len, const char *from, const char *to)
 {
-    static const uint8_t key[PLANBOOK_KEY128_BYTES] = {0, 1, 2, 3, 4, 5, 6, 7, 8, 9, 10, 11, 12, 13, 14, 15}; /* draw your own */
     static uint8_t clear[PLANBOOK_MAX_BOOK_BYTES + 1], sealed[sizeof clear];
-    size_t len = fread(clear, 1, sizeof clear, stdin);
-    uint64_t answer = planbook_encrypt_book(key, sizeof key, PLANBOOK_WAY_WORD_TABLES, clear, len, sealed, len);
+    FILE *file = fopen(from, "rb");
+    size_t len = file != NULL ? fread(clear, 1, sizeof clear, file) : 0;
+    if (file == NULL || ferror(file) || fclose(file) != 0)
+        return perror(from), 2;
+    uint64_t answer = planbook_encrypt_book(words, words_len, PLANBOOK_WAY_WORD_TABLES, clear, len, sealed, len);
     uint32_t check = planbook_check(answer);
-    if (check != PLANBOOK_ACCEPTED) {
-        fprintf(stderr, "refused, check %u: %s\n", (unsigned)check, planbook_check_sentence(check));
-        return 1;
-    }
-    fprintf(stderr, "records sealed: %u\n", (unsigned)planbook_count(answer));
-    return fwrite(sealed, 1, len, stdout) == len && fflush(stdout) == 0 ? 0 : 2;
+    planbook_wipe_stack(); /* every call leaves the words there */
+    if (check != PLANBOOK_ACCEPTED)
+        return fprintf(stderr, "%s: refused, check %u: %s\n", from, (unsigned)check, planbook_check_sentence(check)), 1;
+    file = fopen(to, "wbx"); /* x: an existing file is not replaced */
+    if (file == NULL || fwrite(sealed, 1, len, file) != len || fclose(file) != 0)
+        return perror(to), 2;
+    return printf("%s: records sealed: %u\n", to, (unsigned)planbook_count(answer)) < 0 ? 2 : 0;
+}
+
+int main(int argc, char **argv)
+{
+    uint8_t key[PLANBOOK_KEY128_BYTES] = {0, 1, 2, 3, 4, 5, 6, 7, 8, 9, 10, 11, 12, 13, 14, 15}; /* draw your own */
+    uint8_t words[PLANBOOK_EXPANDED128_BYTES];
+    if (argc < 3 || argc % 2 == 0)
+        return fputs("usage: seal_book CLEAR SEALED [CLEAR SEALED]...\n", stderr), 2;
+    uint64_t answer = planbook_expand_key(key, sizeof key, PLANBOOK_WAY_WORD_TABLES, words, sizeof words);
+    planbook_wipe_stack();
+    planbook_wipe(key, sizeof key); /* the words are all that is needed now */
+    if (planbook_check(answer) != PLANBOOK_ACCEPTED)
+        return fprintf(stderr, "refused: %s\n", planbook_check_sentence(planbook_check(answer))), 1;
+    int status = 0;
+    for (int i = 1; i < argc && status == 0; i += 2)
+        status = seal(words, sizeof words, argv[i], argv[i + 1]);
+    planbook_wipe(words, sizeof words); /* whoever has them needs no key */
+    return status;
 }

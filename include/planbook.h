@@ -20,8 +20,24 @@
  * each record.
  *
  * Eight calls do the work: the constants of the key schedule, the expanded ("prepared") key, one block encrypted or
- * decrypted, one book encrypted ("sealed") or decrypted ("opened"), one note sealed or opened, one sheet's page. The calls
- * that take a key take a "way" too, which is the field's implementation strategy: it changes the speed and never the result.
+ * decrypted, one book encrypted ("sealed") or decrypted ("opened"), one note sealed or opened, one sheet's page. A key goes
+ * into planbook_expand_key alone. The words that it writes go into the calls for blocks, books and notes. All of these take
+ * a "way" too, which is the field's implementation strategy: it changes the speed and never the result.
+ *
+ * PREPARE ONCE, USE OFTEN
+ *
+ * Expand a key once, and lend the words to as many calls as there is work, one after the other or from any number of
+ * threads at once: no call changes them. Which way made the words does not matter, and another way may use them.
+ *
+ * - The words are as secret as the key: whoever has them opens and seals whatever the key does, and those of a key of 16
+ *   bytes begin with the key itself. Keep them where you would keep the key, lock them into memory if you lock the key, and
+ *   wipe them when the last call is made: planbook_wipe does that.
+ * - Any words of a permitted length are accepted, whether a key gives them or none. So no call notices that words are
+ *   damaged, or are those of another key. What is sealed under damaged words opens under the same damaged words; under the
+ *   key's own it mostly meets check 11, but may open as another plan: a wrong bit in the first word or in the fifth (bytes
+ *   0 to 3 and 16 to 19) changes the entry of every record and nothing else, and no check sees that. A note gives other
+ *   bytes. Where words are stored, store a digest of them, or expand the key again and compare. Before a clear plan is
+ *   erased, open the sealed book under words expanded anew, and compare it with the clear one.
  *
  * ANSWERS
  *
@@ -44,10 +60,10 @@
  * The library keeps no state between calls, so there is nothing to initialise, and any number of threads may call it at
  * once, each with an output of its own. A call uses at most PLANBOOK_STACK_BYTES of stack and nothing from the heap.
  *
- * When a call with a key has returned, the key and all words of the expanded key still stand on the stack below the caller,
+ * When a call with a key or with words has returned, the key or all the words still stand on the stack below the caller,
  * where no function's variable is. planbook_wipe_stack overwrites them, and what planbook_page may have left of the
- * records. Call it in the function that made the call, when the last call is made; buffers of the caller's own are the
- * caller's to wipe.
+ * records. Call it in the function that made the call, when the last call is made. The buffers of the key, the words and
+ * the clear book are the caller's own to wipe; planbook_wipe does it.
  *
  * OPEN ONLY BOOKS WHOSE ORIGIN YOU KNOW
  *
@@ -85,12 +101,13 @@
  * - Timing. Ways 1 and 2 read tables at places that depend on secret bytes. No way is promised to take the same time for
  *   all keys and records.
  * - Who wrote a book. Sealing is not authenticated: a changed sealed book may open as another plan. Compare its digest.
- * - The right key. A wrong key mostly meets check 11, but a book may open under it as another plan.
- * - The right text. A note has no check of its text: a wrong key or counter block gives other bytes without a refusal, and
+ * - The right words. Words of a wrong key, or damaged ones, mostly meet check 11, but a book may open under them as another
+ *   plan (see "Prepare once, use often").
+ * - The right text. A note has no check of its text: wrong words or a wrong counter block give other bytes without a refusal, and
  *   each bit that is changed in a sealed note is changed in the text. Its length can be read.
  * - Secrecy of the contents. Trials, record counts, numbers of replicates and start blocks stay readable in a sealed book.
  * - Keys and start blocks. The caller draws them. Use a start block once under a key; it should not be predictable.
- * - Wiping. No call wipes what it leaves on the stack; planbook_wipe_stack does. Registers are not wiped, nor copies that
+ * - Wiping. No call wipes what it leaves on the stack, and none the words that are lent. Registers are not wiped, nor copies that
  *   the system made of registers and memory.
  * - Other platforms. The library is built for x86-64 Linux.
  */
@@ -104,7 +121,7 @@
 extern "C" {
 #endif
 
-#define PLANBOOK_VERSION "2.1.0"
+#define PLANBOOK_VERSION "3.0.0"
 
 /* Not part of the interface: a cast that neither language warns of, and the compiler's attributes. */
 #ifdef __cplusplus
@@ -133,10 +150,14 @@ extern "C" {
 #define PLANBOOK_CONSTANTS192_BYTES 336
 #define PLANBOOK_CONSTANTS256_BYTES 368
 
-/* Output lengths of planbook_expand_key: 40, 48 or 56 words of four bytes. */
+/*
+ * Output lengths of planbook_expand_key: 40, 48 or 56 words of four bytes. Where words are asked for, any of the three will
+ * do: their number tells how many rounds there are.
+ */
 #define PLANBOOK_EXPANDED128_BYTES 160
 #define PLANBOOK_EXPANDED192_BYTES 192
 #define PLANBOOK_EXPANDED256_BYTES 224
+#define PLANBOOK_MAX_EXPANDED_BYTES PLANBOOK_EXPANDED256_BYTES
 
 /* The parts of a book, and its limits. A book of the greatest length may have 4,088 records in 5 sheets. */
 #define PLANBOOK_HEAD_BYTES 4
@@ -187,6 +208,7 @@ extern "C" {
 #define PLANBOOK_CHECK_RECORD 11
 #define PLANBOOK_CHECK_NOTE_LENGTH 12
 #define PLANBOOK_CHECK_SHEET_INDEX 13
+#define PLANBOOK_CHECK_WORDS_LENGTH 14
 
 /*
  * The constants of the key schedule for keys of key_length bytes, as words of four bytes, highest first.
@@ -201,12 +223,12 @@ PLANBOOK_MUST_USE uint64_t planbook_constants(uint64_t key_length, uint8_t *out,
 
 /*
  * The expanded key (also "prepared key"): four whitening keys, then the round keys, as words of four bytes, highest
- * first. The other calls with a key expand it by themselves; this one is for callers that compare or archive expanded keys.
+ * first. It is what the calls below ask for as words. No other call takes a key.
  *
  *   key, key_len  the key, 16, 24 or 32 bytes
  *   way           PLANBOOK_WAY_..
  *   out           out_len bytes; for the three key lengths PLANBOOK_EXPANDED128_BYTES, PLANBOOK_EXPANDED192_BYTES and
- *                 PLANBOOK_EXPANDED256_BYTES
+ *                 PLANBOOK_EXPANDED256_BYTES: planbook_expanded_length tells it
  *
  * Checks: 1 (key_len), 2 (way), 4 (out_len). Count: the words written, 40, 48 or 56.
  */
@@ -214,61 +236,76 @@ PLANBOOK_MUST_USE uint64_t planbook_expand_key(const uint8_t *key, size_t key_le
                                                uint8_t *out, size_t out_len);
 
 /*
- * One block, encrypted or decrypted. Each is the inverse of the other under the same key.
+ * The length of the words for a key of key_len bytes, for out_len of planbook_expand_key and words_len of the calls below. It
+ * is 0 where no key has that length: planbook_expand_key then refuses the key, whatever is lent.
+ */
+static inline size_t planbook_expanded_length(size_t key_len)
+{
+    switch (key_len) {
+    case PLANBOOK_KEY128_BYTES: return PLANBOOK_EXPANDED128_BYTES;
+    case PLANBOOK_KEY192_BYTES: return PLANBOOK_EXPANDED192_BYTES;
+    case PLANBOOK_KEY256_BYTES: return PLANBOOK_EXPANDED256_BYTES;
+    default: return 0;
+    }
+}
+
+/*
+ * One block, encrypted or decrypted. Each is the inverse of the other under the same words.
  *
- *   key, key_len      the key, 16, 24 or 32 bytes
+ *   words, words_len  the words, 160, 192 or 224 bytes: what planbook_expand_key wrote
  *   way               PLANBOOK_WAY_..
  *   block, block_len  the block, 16 bytes
  *   out, out_len      the result, 16 bytes
  *
- * Checks: 1 (key_len), 2 (way), 3 (block_len), 4 (out_len). Count: 1.
+ * Checks: 14 (words_len), 2 (way), 3 (block_len), 4 (out_len). Count: 1.
  */
-PLANBOOK_MUST_USE uint64_t planbook_encrypt_block(const uint8_t *key, size_t key_len, uint64_t way,
+PLANBOOK_MUST_USE uint64_t planbook_encrypt_block(const uint8_t *words, size_t words_len, uint64_t way,
                                                   const uint8_t *block, size_t block_len, uint8_t *out, size_t out_len);
-PLANBOOK_MUST_USE uint64_t planbook_decrypt_block(const uint8_t *key, size_t key_len, uint64_t way,
+PLANBOOK_MUST_USE uint64_t planbook_decrypt_block(const uint8_t *words, size_t words_len, uint64_t way,
                                                   const uint8_t *block, size_t block_len, uint8_t *out, size_t out_len);
 
 /*
  * Seals a clear book. Its records keep their places; head and contents stay, but for the first byte.
  *
- *   key, key_len    the key, 16, 24 or 32 bytes
- *   way             PLANBOOK_WAY_..
- *   book, book_len  the clear book, 4 to 65,532 bytes, at most 64 sheets of 1 to 1,024 records
- *   out, out_len    the sealed book; out_len is book_len
+ *   words, words_len  the words, 160, 192 or 224 bytes: what planbook_expand_key wrote
+ *   way               PLANBOOK_WAY_..
+ *   book, book_len    the clear book, 4 to 65,532 bytes, at most 64 sheets of 1 to 1,024 records
+ *   out, out_len      the sealed book; out_len is book_len
  *
- * Checks: 1 (key_len), 2 (way), 4 (out_len), then of the book 5, 6 (begins with 01 00), 7, 8, 9, 10, 11.
+ * Checks: 14 (words_len), 2 (way), 4 (out_len), then of the book 5, 6 (begins with 01 00), 7, 8, 9, 10, 11.
  * Count: the records in the book; 0 is a good answer, since a book may have no sheet.
  */
-PLANBOOK_MUST_USE uint64_t planbook_encrypt_book(const uint8_t *key, size_t key_len, uint64_t way,
+PLANBOOK_MUST_USE uint64_t planbook_encrypt_book(const uint8_t *words, size_t words_len, uint64_t way,
                                                  const uint8_t *book, size_t book_len, uint8_t *out, size_t out_len);
 
 /*
- * Opens a sealed book, the inverse of planbook_encrypt_book under the same key. Parameters, limits and count are as there,
+ * Opens a sealed book, the inverse of planbook_encrypt_book under the same words. Parameters, limits and count are as there,
  * with sealed and clear changed about.
  *
- * Checks: 1 (key_len), 2 (way), 4 (out_len), then of the book 5, 6 (begins with 02 00), 7, 8, 9, 10, and 11 of the
+ * Checks: 14 (words_len), 2 (way), 4 (out_len), then of the book 5, 6 (begins with 02 00), 7, 8, 9, 10, and 11 of the
  * decrypted records.
  */
-PLANBOOK_MUST_USE uint64_t planbook_decrypt_book(const uint8_t *key, size_t key_len, uint64_t way,
+PLANBOOK_MUST_USE uint64_t planbook_decrypt_book(const uint8_t *words, size_t words_len, uint64_t way,
                                                  const uint8_t *book, size_t book_len, uint8_t *out, size_t out_len);
 
 /*
- * Seals a note, or opens a sealed one: counter mode takes itself back, so both are this call, with the same key and the
+ * Seals a note, or opens a sealed one: counter mode takes itself back, so both are this call, with the same words and the
  * same counter block. Read "A counter block serves once" above before the first use.
  *
  * The note is exclusive-ored with the encrypted counter blocks. The first is the one given; in each that follows, the last
  * four bytes, a number with the highest byte first, are one higher, and zero after ffffffff; the first twelve stay. Of the
  * last encrypted block as many leading bytes are used as the note still has.
  *
- *   key, key_len          the key, 16, 24 or 32 bytes
+ *   words, words_len      the words, 160, 192 or 224 bytes: what planbook_expand_key wrote
  *   way                   PLANBOOK_WAY_..
  *   counter, counter_len  the first counter block, 16 bytes
  *   note, note_len        the note, clear or sealed, 0 to 16,384 bytes
  *   out, out_len          the result; out_len is note_len
  *
- * Checks: 1 (key_len), 2 (way), 3 (counter_len), 4 (out_len), 12 (note_len). Count: the note's bytes; 0 is a good answer.
+ * Checks: 14 (words_len), 2 (way), 3 (counter_len), 4 (out_len), 12 (note_len). Count: the note's bytes; 0 is a good
+ * answer.
  */
-PLANBOOK_MUST_USE uint64_t planbook_crypt_note(const uint8_t *key, size_t key_len, uint64_t way,
+PLANBOOK_MUST_USE uint64_t planbook_crypt_note(const uint8_t *words, size_t words_len, uint64_t way,
                                                const uint8_t *counter, size_t counter_len,
                                                const uint8_t *note, size_t note_len, uint8_t *out, size_t out_len);
 
@@ -341,9 +378,11 @@ static inline const char *planbook_check_sentence(uint32_t check)
     case PLANBOOK_CHECK_RECORD:
         return "a record breaks its rule: its sheet's trial, entry at least 1, replicate from 1 to its sheet's number of "
                "replicates, row and column both from 1 to 999 or both 0 (in reserve), three zero bytes at the end; in opening, "
-               "the key may be the wrong one";
+               "the words may be those of another key, or damaged";
     case PLANBOOK_CHECK_NOTE_LENGTH: return "the note is longer than 16384 bytes";
     case PLANBOOK_CHECK_SHEET_INDEX: return "the book has no sheet of this index; sheets are counted from 0";
+    case PLANBOOK_CHECK_WORDS_LENGTH:
+        return "the words are not 160, 192 or 224 bytes long; they are what planbook_expand_key wrote, and not the key";
     default: return "there is no check of this number";
     }
 }
@@ -358,8 +397,20 @@ static inline const char *planbook_version(void)
 #define PLANBOOK_WIPE_STACK 1
 
 /*
+ * Overwrites len bytes with zeros: a key, words, a clear book. The stores are volatile, so that no compiler leaves them out,
+ * as it may with memset where nothing reads the bytes any more.
+ */
+static inline void planbook_wipe(void *at, size_t len)
+{
+    volatile uint8_t *bytes = PLANBOOK_CAST(volatile uint8_t *, at);
+    size_t i;
+    for (i = 0; i < len; i++)
+        bytes[i] = 0;
+}
+
+/*
  * Overwrites PLANBOOK_STACK_BYTES of stack below the function that calls it, where a call made in that function has left
- * the key, the expanded key and what it worked on. It needs as much stack itself, and some bytes more.
+ * the key, the words and what it worked on. It needs as much stack itself, and some bytes more.
  *
  * The stores are volatile, so that no compiler leaves them out. The function has a frame of its own: inlined, it would
  * wipe a part of the caller's frame.

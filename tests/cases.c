@@ -46,8 +46,8 @@ unsigned checks_of(call_kind kind)
 {
     unsigned set = 1u << CHECK_OUTPUT_LENGTH;
     if (kind != CALL_PAGE)
-        set |= 1u << CHECK_KEY;
-    if (call_has_key(kind))
+        set |= 1u << (call_has_words(kind) ? CHECK_WORDS : CHECK_KEY);
+    if (call_has_secret(kind))
         set |= 1u << CHECK_WAY;
     if (call_is_block(kind) || kind == CALL_CRYPT_NOTE)
         set |= 1u << CHECK_BLOCK_LENGTH;
@@ -68,9 +68,34 @@ static uint64_t one_of(generator *g, const uint64_t *list, size_t count)
 
 #define ONE_OF(g, list) one_of(g, list, sizeof(list) / sizeof(list)[0])
 
-/* Key, way, block and output. */
+/* Key, words, way, block and output. */
 
 static const uint64_t permitted_key_lengths[] = {16, 24, 32};
+static const uint64_t permitted_words_lengths[] = {160, 192, 224};
+
+void make_words(generator *g, uint8_t *words, size_t len)
+{
+    uint8_t key[32];
+    reference_words expanded;
+    random_fill(g, key, sizeof key);
+    reference_expand_key(&expanded, key, len == 160 ? 16 : len == 192 ? 24 : 32);
+    reference_store_words(words, &expanded);
+}
+
+/* Mostly those of a key; or with a bit of them changed, or drawn at random, or all alike: any are accepted. */
+static void choose_words(generator *g, test_case *c)
+{
+    size_t len = ONE_OF(g, permitted_words_lengths);
+    uint64_t sort = random_below(g, 8);
+    random_fill(g, c->secret, MAX_SECRET);
+    c->in.secret_len = len;
+    if (sort < 6)
+        make_words(g, c->secret, len);
+    if (sort == 0)
+        c->secret[random_below(g, len)] ^= (uint8_t)(1 << random_below(g, 8));
+    if (sort == 6)
+        memset(c->secret, random_chance(g, 2) ? 0 : 0xff, len);
+}
 
 static uint64_t wrong_key_number(generator *g)
 {
@@ -84,8 +109,19 @@ static uint64_t wrong_key_number(generator *g)
 
 static uint64_t wrong_key_length(generator *g)
 {
-    uint64_t len = random_below(g, MAX_KEY + 1);
+    uint64_t len = random_below(g, random_chance(g, 2) ? 65 : MAX_SECRET + 1);
     return len == 16 || len == 24 || len == 32 ? len - 1 : len;
+}
+
+/* A byte or a word more or less, numbers of words, lengths of keys, and what is permitted if cut to 8 bits. */
+static uint64_t wrong_words_length(generator *g)
+{
+    static const uint64_t lengths[] = {
+        0, 1, 4, 16, 24, 32, 40, 48, 56, 156, 159, 161, 164, 176, 188, 191, 193, 196, 208, 220, 223, 225, 228, 240, 256,
+        416, 448, 480,
+    };
+    uint64_t len = random_chance(g, 2) ? ONE_OF(g, lengths) : random_below(g, MAX_SECRET + 1);
+    return len == 160 || len == 192 || len == 224 ? len + 1 : len;
 }
 
 static uint64_t wrong_way(generator *g)
@@ -370,7 +406,7 @@ static size_t damage_length(generator *g, uint8_t *book, size_t len)
 
 static size_t damage_book_length(generator *g, unsigned damages, uint8_t *book, size_t len)
 {
-    unsigned needs_a_head = damages >> CHECK_SHEET_NUMBER;
+    unsigned needs_a_head = (damages & ~(1u << CHECK_WORDS)) >> CHECK_SHEET_NUMBER;
     size_t longer = MAX_BOOK_LENGTH + 1 + (random_chance(g, 2) ? 0 : random_below(g, 20000));
     if (len > MAX_BOOK_LENGTH)
         return len;
@@ -403,10 +439,10 @@ static void make_book(generator *g, unsigned damages, test_case *c)
     if (has(damages, CHECK_RECORD))
         damage_record(g, book, len);
     if (c->in.kind == CALL_DECRYPT_BOOK) {
-        reference_key key;
+        reference_words words;
         memcpy(clear, book, len);
-        reference_expand_key(&key, c->key, c->in.key_len);
-        reference_encrypt_bodies(&key, clear, len, book);
+        reference_load_words(&words, c->secret, c->in.secret_len);
+        reference_encrypt_bodies(&words, clear, len, book);
         book[0] = SEALED_BOOK;
     }
     if (has(damages, CHECK_ENTRY) && !random_chance(g, 4))
@@ -514,11 +550,22 @@ static void choose_output_length(generator *g, unsigned damages, test_case *c)
         c->in.out_len = wrong_output_length(g, right);
 }
 
-static void choose_key(generator *g, test_case *c)
+static void choose_secret(generator *g, test_case *c)
 {
-    random_fill(g, c->key, MAX_KEY);
-    c->in.key_len = ONE_OF(g, permitted_key_lengths);
     c->in.way = random_between(g, 1, 3);
+    if (call_has_words(c->in.kind)) {
+        choose_words(g, c);
+        return;
+    }
+    random_fill(g, c->secret, MAX_SECRET);
+    c->in.secret_len = ONE_OF(g, permitted_key_lengths);
+}
+
+static uint64_t wrong_secret_length(generator *g, call_kind kind)
+{
+    if (kind == CALL_CONSTANTS)
+        return wrong_key_number(g);
+    return kind == CALL_EXPAND_KEY ? wrong_key_length(g) : wrong_words_length(g);
 }
 
 void make_case(generator *g, call_kind kind, unsigned damages, test_case *c)
@@ -527,10 +574,10 @@ void make_case(generator *g, call_kind kind, unsigned damages, test_case *c)
     memset(in, 0, sizeof *in);
     in->kind = kind;
     if (kind != CALL_PAGE)
-        choose_key(g, c);
+        choose_secret(g, c);
     in->input = c->input;
     if (call_is_block(kind)) {
-        random_fill(g, c->input, MAX_KEY);
+        random_fill(g, c->input, 4 * REFERENCE_BLOCK);
         in->input_len = has(damages, CHECK_BLOCK_LENGTH) ? wrong_block_length(g) : REFERENCE_BLOCK;
     }
     if (call_is_book(kind))
@@ -539,20 +586,27 @@ void make_case(generator *g, call_kind kind, unsigned damages, test_case *c)
         make_note(g, damages, c);
     if (kind == CALL_PAGE)
         choose_sheet(g, damages, c);
-    if (call_has_key(kind))
-        in->key = c->key;
+    if (call_has_secret(kind))
+        in->secret = c->secret;
     if (has(damages, CHECK_WAY))
         in->way = wrong_way(g);
     choose_output_length(g, damages, c);
-    if (has(damages, CHECK_KEY))
-        in->key_len = kind == CALL_CONSTANTS ? wrong_key_number(g) : wrong_key_length(g);
+    if (has(damages, CHECK_KEY) || has(damages, CHECK_WORDS))
+        in->secret_len = wrong_secret_length(g, kind);
+}
+
+void make_case_of_length(generator *g, call_kind kind, size_t words_len, test_case *c)
+{
+    do
+        make_case(g, kind, 0, c);
+    while (c->in.secret_len != words_len);
 }
 
 void make_changed_case(generator *g, call_kind kind, test_case *c)
 {
     make_case(g, kind, 0, c);
-    if (call_has_key(kind) && random_chance(g, 4)) {
-        c->key[random_below(g, c->in.key_len)] ^= (uint8_t)random_between(g, 1, 255);
+    if (call_has_secret(kind) && random_chance(g, 4)) {
+        c->secret[random_below(g, c->in.secret_len)] ^= (uint8_t)random_between(g, 1, 255);
         return;
     }
     for (uint64_t changes = random_between(g, 1, 3); changes > 0 && c->in.input_len > 0; changes--)
@@ -571,7 +625,7 @@ void make_random_case(generator *g, call_kind kind, test_case *c)
     call_input *in = &c->in;
     make_case(g, kind, 0, c);
     if (kind != CALL_PAGE && random_chance(g, 8))
-        in->key_len = kind == CALL_CONSTANTS ? random_number(g) : random_below(g, MAX_KEY + 1);
+        in->secret_len = kind == CALL_CONSTANTS ? random_number(g) : random_below(g, MAX_SECRET + 1);
     if (kind != CALL_PAGE && random_chance(g, 8))
         in->way = random_below(g, 6);
     if (kind == CALL_PAGE)

@@ -18,7 +18,7 @@ int random_chance(generator *g, uint64_t one_in);
 void random_fill(generator *g, uint8_t *bytes, size_t len);
 
 enum {
-    MAX_KEY = 64,
+    MAX_SECRET = 512, /* lengths that 8 bits make permitted ones are below */
     MAX_COUNTER = 64,
     MAX_INPUT = 100000,
     MAX_OUTPUT = MAX_INPUT + 64,
@@ -26,8 +26,8 @@ enum {
 };
 
 typedef struct {
-    call_input in; /* points into key, counter and input */
-    uint8_t key[MAX_KEY];
+    call_input in; /* points into secret, counter and input */
+    uint8_t secret[MAX_SECRET];
     uint8_t counter[MAX_COUNTER];
     uint8_t input[MAX_INPUT];
 } test_case;
@@ -40,12 +40,18 @@ typedef struct {
 /* The checks that a call has, as bits. */
 unsigned checks_of(call_kind kind);
 
+/* The words of a key drawn at random, 160, 192 or 224 bytes. */
+void make_words(generator *g, uint8_t *words, size_t len);
+
 /* Writes a clear book of this shape, otherwise valid; returns its length. */
 size_t make_clear_book(generator *g, const book_shape *shape, uint8_t *book);
 
 /* A case in which the checks of the set are made to fail, as far as they can
  * together; an empty set gives an accepted case. */
 void make_case(generator *g, call_kind kind, unsigned damages, test_case *c);
+
+/* An accepted case whose words have this length. */
+void make_case_of_length(generator *g, call_kind kind, size_t words_len, test_case *c);
 
 /* A valid case with a few bytes changed, or one of random bytes and lengths. */
 void make_changed_case(generator *g, call_kind kind, test_case *c);

@@ -57,9 +57,10 @@ void fail(const char *format, ...)
 void describe_call(const call_input *in, char *text, size_t len)
 {
     snprintf(text, len,
-             "%s (key %" PRIu64 " bytes, way %" PRIu64 ", counter block %zu bytes, input %zu bytes, sheet %" PRIu64
+             "%s (%s %" PRIu64 " bytes, way %" PRIu64 ", counter block %zu bytes, input %zu bytes, sheet %" PRIu64
              ", output %zu bytes)",
-             call_name(in->kind), in->key_len, in->way, in->counter_len, in->input_len, in->sheet, in->out_len);
+             call_name(in->kind), call_has_words(in->kind) ? "words" : "key", in->secret_len, in->way, in->counter_len,
+             in->input_len, in->sheet, in->out_len);
 }
 
 void fail_call(const call_input *in, const char *what, const char *how, ...)
@@ -132,27 +133,27 @@ static void compare_output(const call_input *in, const char *what)
 /* Makes the call that expect_call was asked about. */
 static void make_call(const call_input *in, uint64_t expected, const char *what)
 {
-    size_t key_len = call_has_key(in->kind) ? in->key_len : 0;
-    uint8_t *key = lend(in->key, key_len);
+    size_t secret_len = call_has_secret(in->kind) ? in->secret_len : 0;
+    uint8_t *secret = lend(in->secret, secret_len);
     uint8_t *counter = lend(in->counter, in->counter_len);
     uint8_t *input = lend(in->input, in->input_len);
     call_input lent = *in;
     uint64_t answer;
     memcpy(lent_output, output_before, FENCE + in->out_len + FENCE);
-    lent.key = key;
+    lent.secret = secret;
     lent.counter = counter;
     lent.input = input;
     answer = library_call(&lent, lent_output + FENCE);
     if (answer != expected)
         fail_answer(in, what, answer, expected);
     compare_output(in, what);
-    if (key_len > 0 && memcmp(key, in->key, key_len) != 0)
-        fail_call(in, what, "the key was changed");
+    if (secret_len > 0 && memcmp(secret, in->secret, secret_len) != 0)
+        fail_call(in, what, "the key or the words were changed");
     if (in->counter_len > 0 && memcmp(counter, in->counter, in->counter_len) != 0)
         fail_call(in, what, "the counter block was changed");
     if (in->input_len > 0 && memcmp(input, in->input, in->input_len) != 0)
         fail_call(in, what, "the input was changed");
-    free(key);
+    free(secret);
     free(counter);
     free(input);
 }

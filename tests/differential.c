@@ -16,7 +16,7 @@
 
 enum {
     BLOCK_CASES = 100000,   /* for each key length */
-    ROUND_TRIPS = 300,      /* of books and of notes, for each key length */
+    ROUND_TRIPS = 300,      /* of books and of notes, for each number of words */
     INPUT_CASES = 200000,   /* for each call */
     LEAST_ANSWERS = 1000,   /* for each check of each call, of notes in which the number wraps, of pages behind the first */
     PAIR_TRIES = 2000       /* to make two checks fail together */
@@ -25,34 +25,45 @@ enum {
 /* What the specification prints: first the reference is held against it, then
  * the library against the reference. */
 
+static void check_reference_blocks(const paper_vector *v, const reference_words *words)
+{
+    uint8_t block[16];
+    reference_encrypt_block(words, v->plaintext, block);
+    if (memcmp(block, v->ciphertext, 16) != 0)
+        fail("the reference does not encrypt the printed block, key of %zu bytes", v->key_len);
+    reference_decrypt_block(words, v->ciphertext, block);
+    if (memcmp(block, v->plaintext, 16) != 0)
+        fail("the reference does not decrypt the printed block, key of %zu bytes", v->key_len);
+}
+
 static void check_reference(void)
 {
     if (!reference_tables_are_permutations())
         fail("a byte table of the reference is not a permutation");
     for (size_t i = 0; i < KEY_LENGTHS; i++) {
         const paper_vector *v = &paper_vectors[i];
-        reference_key key;
-        uint8_t block[16];
-        reference_expand_key(&key, v->key, v->key_len);
-        if (memcmp(key.whitening, v->expanded, 16) != 0 ||
-            memcmp(key.round_keys, v->expanded + 4, 4 * (v->words - 4)) != 0)
+        reference_words words;
+        uint8_t bytes[224], stored[224];
+        size_t len = printed_words(v, bytes);
+        reference_expand_key(&words, v->key, v->key_len);
+        if (reference_store_words(stored, &words) != v->words || memcmp(stored, bytes, len) != 0)
             fail("the reference's expanded key is not the printed one, key of %zu bytes", v->key_len);
-        reference_encrypt_block(&key, v->plaintext, block);
-        if (memcmp(block, v->ciphertext, 16) != 0)
-            fail("the reference does not encrypt the printed block, key of %zu bytes", v->key_len);
-        reference_decrypt_block(&key, v->ciphertext, block);
-        if (memcmp(block, v->plaintext, 16) != 0)
-            fail("the reference does not decrypt the printed block, key of %zu bytes", v->key_len);
+        check_reference_blocks(v, &words);
+        memset(&words, 0, sizeof words);
+        reference_load_words(&words, bytes, len);
+        check_reference_blocks(v, &words);
     }
     printf("reference: its tables give the vectors of section 2.5, %d key lengths\n", KEY_LENGTHS);
 }
 
 static void check_vector(const paper_vector *v)
 {
+    uint8_t words[224];
+    size_t words_len = printed_words(v, words);
     call_input constants = {CALL_CONSTANTS, NULL, v->key_len, 0, NULL, 0, 0};
-    call_input expand = {CALL_EXPAND_KEY, v->key, v->key_len, 1, NULL, 0, 4 * v->words};
-    call_input encrypt = {CALL_ENCRYPT_BLOCK, v->key, v->key_len, 1, v->plaintext, 16, 16};
-    call_input decrypt = {CALL_DECRYPT_BLOCK, v->key, v->key_len, 1, v->ciphertext, 16, 16};
+    call_input expand = {CALL_EXPAND_KEY, v->key, v->key_len, 1, NULL, 0, words_len};
+    call_input encrypt = {CALL_ENCRYPT_BLOCK, words, words_len, 1, v->plaintext, 16, 16};
+    call_input decrypt = {CALL_DECRYPT_BLOCK, words, words_len, 1, v->ciphertext, 16, 16};
     size_t count;
     reference_constants(v->key_len, &count);
     constants.out_len = 4 * count;
@@ -73,8 +84,9 @@ static void check_vectors(void)
 /* The library against the reference by each way, and then what it wrote against the bytes written down. */
 static void check_note_vector(const paper_vector *key, const note_vector *v, const uint8_t *sealed)
 {
-    size_t len = strlen(v->note);
-    call_input in = {CALL_CRYPT_NOTE, key->key, key->key_len, 1, (const uint8_t *)v->note, len, len, v->counter, 16};
+    uint8_t words[224];
+    size_t words_len = printed_words(key, words), len = strlen(v->note);
+    call_input in = {CALL_CRYPT_NOTE, words, words_len, 1, (const uint8_t *)v->note, len, len, v->counter, 16};
     compare_ways(&in, len, "note vector");
     if (memcmp(last_output(), sealed, len) != 0)
         fail_call(&in, "note vector", "library and reference agree on other bytes than those written down");
@@ -97,17 +109,19 @@ static void check_note_vectors(void)
 
 static void compare_block(uint64_t key_len, int with_expansion)
 {
-    uint8_t key[32], block[16];
-    call_input in = {CALL_ENCRYPT_BLOCK, key, key_len, 1, block, 16, 16};
+    uint8_t key[32], words[224], block[16];
+    reference_words expanded;
+    call_input in = {CALL_ENCRYPT_BLOCK, words, 0, 1, block, 16, 16};
     random_fill(&random_source, key, key_len);
     random_fill(&random_source, block, 16);
+    reference_expand_key(&expanded, key, key_len);
+    in.secret_len = 4 * reference_store_words(words, &expanded);
     compare_ways(&in, 1, "random block");
     in.kind = CALL_DECRYPT_BLOCK;
     compare_ways(&in, 1, "random block");
     if (with_expansion) {
-        call_input expand = {CALL_EXPAND_KEY, key, key_len, 1, NULL, 0, 0};
-        expand.out_len = reference_output_length(&expand);
-        compare_ways(&expand, expand.out_len / 4, "random key");
+        call_input expand = {CALL_EXPAND_KEY, key, key_len, 1, NULL, 0, in.secret_len};
+        compare_ways(&expand, in.secret_len / 4, "random key");
     }
 }
 
@@ -117,20 +131,19 @@ static void compare_blocks(void)
     for (uint64_t key_len = 16; key_len <= 32; key_len += 8) {
         for (uint64_t i = 0; i < cases; i++)
             compare_block(key_len, i % 10 == 0);
-        printf("blocks: %" PRIu64 " random keys of %" PRIu64 " bytes and blocks, encrypted and decrypted by %d ways; "
-               "every tenth key expanded\n",
+        printf("blocks: %" PRIu64 " random blocks under the words of random keys of %" PRIu64
+               " bytes, encrypted and decrypted by %d ways; every tenth key expanded\n",
                cases, key_len, WAYS);
     }
 }
 
 /* Notes of every length up to some blocks, and the longest. */
 
-static void compare_note(uint64_t key_len, size_t len, uint32_t number)
+static void compare_note(size_t words_len, size_t len, uint32_t number)
 {
     static test_case c;
-    make_case(&random_source, CALL_CRYPT_NOTE, 0, &c);
+    make_case_of_length(&random_source, CALL_CRYPT_NOTE, words_len, &c);
     random_fill(&random_source, c.input, len);
-    c.in.key_len = key_len;
     c.in.input_len = c.in.out_len = len;
     c.counter[COUNTER_PREFIX_LENGTH - 1] = 0xff; /* which a carry into the prefix would change, and the byte before it */
     reference_store_word(c.counter + COUNTER_PREFIX_LENGTH, number);
@@ -144,15 +157,15 @@ static void compare_notes(void)
         0, 0xff, 0xffff, 0xffffff, 0x7fffffff, 0xfffffffc, 0xfffffffd, 0xfffffffe, 0xffffffff,
     };
     enum { NUMBERS = sizeof numbers / sizeof numbers[0], LENGTHS = 65 };
-    for (uint64_t key_len = 16; key_len <= 32; key_len += 8) {
+    for (size_t words_len = 160; words_len <= 224; words_len += 32) {
         for (size_t len = 0; len < LENGTHS; len++)
             for (size_t i = 0; i < NUMBERS; i++)
-                compare_note(key_len, len, numbers[i]);
-        compare_note(key_len, MAX_NOTE_LENGTH - 1, 0xfffffe00);
-        compare_note(key_len, MAX_NOTE_LENGTH, 0xfffffc00); /* the last block has ffffffff */
-        compare_note(key_len, MAX_NOTE_LENGTH, 0xfffffc01); /* the last block has 0 */
+                compare_note(words_len, len, numbers[i]);
+        compare_note(words_len, MAX_NOTE_LENGTH - 1, 0xfffffe00);
+        compare_note(words_len, MAX_NOTE_LENGTH, 0xfffffc00); /* the last block has ffffffff */
+        compare_note(words_len, MAX_NOTE_LENGTH, 0xfffffc01); /* the last block has 0 */
     }
-    printf("notes: %d of each length up to %d bytes and 3 of the greatest, %d key lengths, %d ways\n", NUMBERS,
+    printf("notes: %d of each length up to %d bytes and 3 of the greatest, %d numbers of words, %d ways\n", NUMBERS,
            LENGTHS - 1, KEY_LENGTHS, WAYS);
 }
 
@@ -194,10 +207,9 @@ static void compare_round_trips(call_kind kind, const char *what, const char *pa
 {
     static test_case c;
     uint64_t trips = scaled(ROUND_TRIPS), count = 0;
-    for (uint64_t key_len = 16; key_len <= 32; key_len += 8)
+    for (size_t words_len = 160; words_len <= 224; words_len += 32)
         for (uint64_t i = 0; i < trips; i++) {
-            make_case(&random_source, kind, 0, &c);
-            c.in.key_len = key_len;
+            make_case_of_length(&random_source, kind, words_len, &c);
             count += compare_call(&c.in, "round trip").answer;
             for (uint64_t pair = 0; pair < WAYS * WAYS; pair++)
                 round_trip(&c, 1 + pair / WAYS, 1 + pair % WAYS);
@@ -261,8 +273,8 @@ static const char *why_impossible(call_kind kind, int a, int b)
 {
     if (a == CHECK_CONTENTS_LENGTH && b == CHECK_RECORD)
         return "a book that ends within its contents has no record";
-    if (kind == CALL_DECRYPT_BOOK && a == CHECK_KEY && b == CHECK_RECORD)
-        return "without a key of a permitted length no record can be decrypted and judged";
+    if (kind == CALL_DECRYPT_BOOK && a == CHECK_WORDS && b == CHECK_RECORD)
+        return "without words of a permitted length no record can be decrypted and judged";
     return NULL;
 }
 
@@ -372,7 +384,8 @@ static void compare_inputs(void)
         report_pairs((call_kind)kind);
     }
     printf("pairs, any call: 3 or 12 with 5 to 11 or 13 impossible: block and note calls have no book, book calls no block\n");
-    printf("pairs, any call: 1 or 2 with 13 impossible: a page has neither key nor way\n");
+    printf("pairs, any call: 1 with 3, 5 to 12 or 14 impossible: a call with a key has no block, book, note or words\n");
+    printf("pairs, any call: 1, 2 or 14 with 13 impossible: a page has neither key nor words nor way\n");
     printf("long books: %" PRIu64 " encrypted, %" PRIu64 " decrypted, %" PRIu64
            " for a page, of 10,000 bytes or more; longest accepted %zu\n",
            long_books[CALL_ENCRYPT_BOOK], long_books[CALL_DECRYPT_BOOK], long_books[CALL_PAGE], longest_accepted);
@@ -394,6 +407,7 @@ int main(int argc, char **argv)
     check_note_edges();
     check_pages();
     check_wide_numbers();
+    check_words();
     compare_blocks();
     compare_notes();
     compare_round_trips(CALL_ENCRYPT_BOOK, "books", "records");

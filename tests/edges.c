@@ -4,7 +4,7 @@
 #include <stdio.h>
 #include <string.h>
 
-static uint8_t key_bytes[MAX_KEY];
+static uint8_t words[MAX_SECRET]; /* drawn at random */
 static uint8_t book[MAX_INPUT];
 static size_t book_len;
 static unsigned tried, tried_pages;
@@ -60,16 +60,16 @@ static void expect_pages(uint64_t answer, const char *what)
 /* Gives the book that is clear to encryption and the same book with its bodies
  * encrypted to decryption: both must have the stated answer, by every way. Where
  * it is the book's, the pages must have it too. */
-static void expect_lengths(uint64_t key_len, size_t out_len, uint64_t answer, const char *what)
+static void expect_lengths(uint64_t words_len, size_t out_len, uint64_t answer, const char *what)
 {
     static uint8_t sealed[MAX_INPUT];
-    call_input in = {CALL_ENCRYPT_BOOK, key_bytes, key_len, 1, book, book_len, out_len};
+    call_input in = {CALL_ENCRYPT_BOOK, words, words_len, 1, book, book_len, out_len};
     compare_ways(&in, answer, what);
     memcpy(sealed, book, book_len);
-    if (book_len >= HEAD_LENGTH && (key_len == 16 || key_len == 24 || key_len == 32)) {
-        reference_key key;
-        reference_expand_key(&key, key_bytes, key_len);
-        reference_encrypt_bodies(&key, book, book_len, sealed);
+    if (book_len >= HEAD_LENGTH && (words_len == 160 || words_len == 192 || words_len == 224)) {
+        reference_words loaded;
+        reference_load_words(&loaded, words, words_len);
+        reference_encrypt_bodies(&loaded, book, book_len, sealed);
     }
     /* The first byte that decryption wants, or one that it does not want. */
     sealed[0] = book[0] == CLEAR_BOOK ? SEALED_BOOK : book[0] == SEALED_BOOK ? CLEAR_BOOK : book[0];
@@ -77,28 +77,31 @@ static void expect_lengths(uint64_t key_len, size_t out_len, uint64_t answer, co
     in.input = sealed;
     compare_ways(&in, answer, what);
     tried += 2;
-    if (answer >> 32 == 0 || answer >> 32 >= CHECK_BOOK_LENGTH)
+    if (answer >> 32 == 0 || (answer >> 32 >= CHECK_BOOK_LENGTH && answer >> 32 <= CHECK_RECORD))
         expect_pages(answer, what);
 }
 
 static void expect(uint64_t answer, const char *what)
 {
-    expect_lengths(32, book_len, answer, what);
+    expect_lengths(224, book_len, answer, what);
 }
 
 static void check_lengths(void)
 {
-    static const uint64_t wrong_keys[] = {0, 15, 17, 23, 25, 31, 33, 64};
+    static const uint64_t wrong_words[] = {0, 16, 24, 32, 159, 161, 191, 193, 223, 225, 256, 416};
     new_book(2, 3);
-    for (size_t i = 0; i < sizeof wrong_keys / sizeof wrong_keys[0]; i++)
-        expect_lengths(wrong_keys[i], book_len, refusal(1), "key of a wrong length");
-    for (uint64_t key_len = 16; key_len <= 32; key_len += 8)
-        expect_lengths(key_len, book_len, 6, "key of a permitted length");
-    expect_lengths(32, book_len - 1, refusal(4), "output one byte short");
-    expect_lengths(32, book_len + 1, refusal(4), "output one byte long");
+    for (size_t i = 0; i < sizeof wrong_words / sizeof wrong_words[0]; i++) {
+        expect_lengths(wrong_words[i], book_len, refusal(14), "words of a wrong length");
+        expect_lengths(wrong_words[i], book_len - 1, refusal(14), "words of a wrong length, output one byte short");
+    }
+    for (uint64_t words_len = 160; words_len <= 224; words_len += 32)
+        expect_lengths(words_len, book_len, 6, "words of a permitted length");
+    expect_lengths(224, book_len - 1, refusal(4), "output one byte short");
+    expect_lengths(224, book_len + 1, refusal(4), "output one byte long");
     book_len = 3;
     expect(refusal(5), "book of 3 bytes");
-    expect_lengths(32, 4, refusal(4), "book of 3 bytes, output of 4");
+    expect_lengths(224, 4, refusal(4), "book of 3 bytes, output of 4");
+    expect_lengths(225, 3, refusal(14), "book of 3 bytes, words of 225");
     book_len = 0;
     expect(refusal(5), "book of no bytes");
 }
@@ -242,12 +245,12 @@ static void check_records(void)
     }
 }
 
-static void expect_plot(uint8_t *at, uint64_t key_len, size_t row, size_t column, uint64_t answer)
+static void expect_plot(uint8_t *at, uint64_t words_len, size_t row, size_t column, uint64_t answer)
 {
     char what[80];
     reference_store_word(at + 9, (uint32_t)(row << 16 | column)); /* bytes 9 to 12 */
     snprintf(what, sizeof what, "row %zu and column %zu in the record at byte %td", row, column, at - book);
-    expect_lengths(key_len, book_len, answer, what);
+    expect_lengths(words_len, book_len, answer, what);
 }
 
 /* Row, column, and the check that answers. */
@@ -265,7 +268,7 @@ static void check_plots(size_t sheets, size_t count)
     for (size_t j = 0; j < records; j++)
         for (size_t i = 0; i < sizeof plots / sizeof plots[0]; i++) {
             new_book(sheets, count);
-            expect_plot(record(sheets, j), 32, plots[i][0], plots[i][1], plots[i][2] == 0 ? records : refusal(plots[i][2]));
+            expect_plot(record(sheets, j), 224, plots[i][0], plots[i][1], plots[i][2] == 0 ? records : refusal(plots[i][2]));
         }
 }
 
@@ -280,8 +283,8 @@ static void check_every_row_and_column(void)
     for (size_t i = 0; i < sizeof beside / sizeof beside[0]; i++)
         for (size_t other = random_below(&random_source, step); other <= 65535; other += step) {
             uint64_t answer = other >= beside[i].least && other <= beside[i].most ? 1 : refusal(11);
-            expect_plot(record(1, 0), 16, other, beside[i].number, answer);
-            expect_plot(record(1, 0), 16, beside[i].number, other, answer);
+            expect_plot(record(1, 0), 160, other, beside[i].number, answer);
+            expect_plot(record(1, 0), 160, beside[i].number, other, answer);
         }
 }
 
@@ -340,7 +343,7 @@ static void check_sheets_replicates(void)
 /* What the library makes of a book that it accepts, by each way. */
 static void change_book(call_kind kind, const uint8_t *from, uint8_t *to)
 {
-    call_input in = {kind, key_bytes, 32, 1, from, book_len, book_len};
+    call_input in = {kind, words, 224, 1, from, book_len, book_len};
     compare_ways(&in, 6, "0 or 4 replicates");
     memcpy(to, last_output(), book_len);
 }
@@ -369,7 +372,7 @@ static void check_zero_and_four(void)
 void check_edges(void)
 {
     tried = tried_pages = 0;
-    random_fill(&random_source, key_bytes, sizeof key_bytes);
+    random_fill(&random_source, words, sizeof words);
     check_lengths();
     check_sizes();
     check_head_and_contents();
@@ -389,55 +392,62 @@ void check_edges(void)
 
 /* What a note's call is lent, and the check that answers. Where the way is 1, each way must answer so. */
 typedef struct {
-    uint64_t key_len, way;
+    uint64_t words_len, way;
     size_t counter_len, note_len, out_len;
     int check;
 } note_edge;
 
 static const note_edge note_edges[] = {
-    {0, 1, 16, 33, 33, 1},
-    {15, 1, 16, 33, 33, 1},
-    {17, 1, 16, 33, 33, 1},
-    {33, 1, 16, 33, 33, 1},
-    {16, 0, 16, 33, 33, 2},
-    {16, 4, 16, 33, 33, 2},
-    {16, 1, 0, 33, 33, 3},
-    {16, 1, 15, 33, 33, 3},
-    {16, 1, 17, 33, 33, 3},
-    {16, 1, 32, 33, 33, 3},
-    {16, 1, 16, 33, 0, 4},
-    {16, 1, 16, 33, 16, 4},
-    {16, 1, 16, 33, 32, 4},
-    {16, 1, 16, 33, 34, 4},
-    {16, 1, 16, 33, 48, 4},
-    {16, 1, 16, 33, 0x10000 + 33, 4},
-    {16, 1, 16, 0, 1, 4},
-    {16, 1, 16, 0, 16, 4},
-    {16, 1, 16, 16384, 16383, 4},
-    {16, 1, 16, 16385, 16385, 12},
-    {16, 1, 16, 16400, 16400, 12},
-    {16, 1, 16, 0x10000, 0x10000, 12},
-    {16, 1, 16, MAX_INPUT, MAX_INPUT, 12},
+    {0, 1, 16, 33, 33, 14},
+    {16, 1, 16, 33, 33, 14},
+    {24, 1, 16, 33, 33, 14},
+    {32, 1, 16, 33, 33, 14},
+    {159, 1, 16, 33, 33, 14},
+    {161, 1, 16, 33, 33, 14},
+    {191, 1, 16, 33, 33, 14},
+    {193, 1, 16, 33, 33, 14},
+    {223, 1, 16, 33, 33, 14},
+    {225, 1, 16, 33, 33, 14},
+    {416, 1, 16, 33, 33, 14},
+    {160, 0, 16, 33, 33, 2},
+    {160, 4, 16, 33, 33, 2},
+    {160, 1, 0, 33, 33, 3},
+    {160, 1, 15, 33, 33, 3},
+    {160, 1, 17, 33, 33, 3},
+    {160, 1, 32, 33, 33, 3},
+    {160, 1, 16, 33, 0, 4},
+    {160, 1, 16, 33, 16, 4},
+    {160, 1, 16, 33, 32, 4},
+    {160, 1, 16, 33, 34, 4},
+    {160, 1, 16, 33, 48, 4},
+    {160, 1, 16, 33, 0x10000 + 33, 4},
+    {160, 1, 16, 0, 1, 4},
+    {160, 1, 16, 0, 16, 4},
+    {160, 1, 16, 16384, 16383, 4},
+    {160, 1, 16, 16385, 16385, 12},
+    {160, 1, 16, 16400, 16400, 12},
+    {160, 1, 16, 0x10000, 0x10000, 12},
+    {160, 1, 16, MAX_INPUT, MAX_INPUT, 12},
     /* Two checks fail. */
-    {15, 4, 16, 33, 33, 1},
-    {17, 1, 15, 33, 33, 1},
-    {17, 1, 16, 33, 32, 1},
-    {15, 1, 16, 16385, 16385, 1},
-    {16, 4, 17, 33, 33, 2},
-    {16, 0, 16, 33, 34, 2},
-    {16, 4, 16, 16385, 16385, 2},
-    {16, 1, 15, 33, 32, 3},
-    {16, 1, 17, 33, 34, 3},
-    {16, 1, 15, 16385, 16385, 3},
-    {16, 1, 16, 16385, 16384, 4},
-    {16, 1, 16, 16385, 33, 4},
+    {159, 4, 16, 33, 33, 14},
+    {161, 1, 15, 33, 33, 14},
+    {161, 1, 16, 33, 32, 14},
+    {159, 1, 16, 16385, 16385, 14},
+    {160, 4, 17, 33, 33, 2},
+    {160, 0, 16, 33, 34, 2},
+    {160, 4, 16, 16385, 16385, 2},
+    {160, 1, 15, 33, 32, 3},
+    {160, 1, 17, 33, 34, 3},
+    {160, 1, 15, 16385, 16385, 3},
+    {160, 1, 16, 16385, 16384, 4},
+    {160, 1, 16, 16385, 33, 4},
     /* None fails. */
-    {16, 1, 16, 0, 0, 0},
-    {24, 1, 16, 0, 0, 0},
-    {32, 1, 16, 0, 0, 0},
-    {16, 1, 16, 1, 1, 0},
-    {24, 1, 16, 33, 33, 0},
-    {32, 1, 16, 16384, 16384, 0},
+    {160, 1, 16, 0, 0, 0},
+    {192, 1, 16, 0, 0, 0},
+    {224, 1, 16, 0, 0, 0},
+    {160, 1, 16, 1, 1, 0},
+    {192, 1, 16, 33, 33, 0},
+    {224, 1, 16, 16384, 16384, 0},
 };
 
 void check_note_edges(void)
@@ -450,7 +460,7 @@ void check_note_edges(void)
     for (size_t i = 0; i < count; i++) {
         const note_edge *e = &note_edges[i];
         uint64_t answer = e->check == 0 ? e->note_len : refusal(e->check);
-        call_input in = {CALL_CRYPT_NOTE, key_bytes, e->key_len, e->way, note, e->note_len, e->out_len, counter,
+        call_input in = {CALL_CRYPT_NOTE, words, e->words_len, e->way, note, e->note_len, e->out_len, counter,
                          e->counter_len};
         if (e->way == 1)
             compare_ways(&in, answer, "note");
@@ -487,7 +497,7 @@ static unsigned expect_key_lengths(void)
     call_input in = {CALL_CONSTANTS, NULL, 16, 0, NULL, 0, 0};
     for (size_t i = 0; i < count; i++)
         for (size_t words = 60; words <= 92; words += words == 60 ? 24 : 8) {
-            in.key_len = refused[i];
+            in.secret_len = refused[i];
             in.out_len = 4 * words;
             compare_ways(&in, refusal(1), "key length as a 64-bit number");
         }
@@ -496,10 +506,10 @@ static unsigned expect_key_lengths(void)
 
 void check_wide_numbers(void)
 {
-    call_input expand = {CALL_EXPAND_KEY, key_bytes, 16, 1, NULL, 0, 160};
-    call_input block = {CALL_ENCRYPT_BLOCK, key_bytes, 16, 1, book, 16, 16};
-    call_input whole = {CALL_ENCRYPT_BOOK, key_bytes, 16, 1, book, 0, 0};
-    call_input note = {CALL_CRYPT_NOTE, key_bytes, 16, 1, book, 33, 33, book, 16};
+    call_input expand = {CALL_EXPAND_KEY, words, 16, 1, NULL, 0, 160};
+    call_input block = {CALL_ENCRYPT_BLOCK, words, 160, 1, book, 16, 16};
+    call_input whole = {CALL_ENCRYPT_BOOK, words, 160, 1, book, 0, 0};
+    call_input note = {CALL_CRYPT_NOTE, words, 160, 1, book, 33, 33, book, 16};
     unsigned ways = expect_ways(expand, 40);
     expect_ways(block, 1);
     block.kind = CALL_DECRYPT_BLOCK;

@@ -16,4 +16,8 @@ void check_pages(void);
  * bits. */
 void check_wide_numbers(void);
 
+/* Words that no key gives, those of a key by each way, and words of every
+ * length. */
+void check_words(void);
+
 #endif

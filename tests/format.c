@@ -48,6 +48,7 @@ static const field sealed_record = {28, 16, "sealed record"};
 
 static FILE *page;
 static char line[LINE_BYTES];
+static uint8_t words[160]; /* of the worked book's key */
 
 /* The next line that begins so. */
 static const char *find_line(const char *start)
@@ -125,23 +126,33 @@ static void expect_bytes(const char *what, const uint8_t *got, const uint8_t *du
             fail("%s: byte %zu is %02x on the page, expected %02x", what, i, got[i], due[i]);
 }
 
-/* The library's and the reference's result of one call, by each way. */
-static void expect_call(call_kind kind, const byte_row *key, const byte_row *from, const byte_row *to)
+/* The words of the key, from the library by each way, and from the reference. */
+static void expand_key(const byte_row *key, reference_words *expanded)
 {
-    call_input in = {kind, key->bytes, key->len, 1, from->bytes, BOOK_BYTES, BOOK_BYTES};
+    call_input in = {CALL_EXPAND_KEY, key->bytes, key->len, 1, NULL, 0, sizeof words};
+    compare_ways(&in, 40, "key of the worked book");
+    memcpy(words, last_output(), sizeof words);
+    reference_expand_key(expanded, key->bytes, key->len);
+}
+
+/* The library's and the reference's result of one call, by each way. */
+static void expect_call(call_kind kind, const byte_row *from, const byte_row *to)
+{
+    call_input in = {kind, words, sizeof words, 1, from->bytes, BOOK_BYTES, BOOK_BYTES};
     compare_ways(&in, 1, "worked book");
     expect_bytes(call_name(kind), to->bytes, last_output(), BOOK_BYTES);
 }
 
-static void expect_encrypted(const char *what, const reference_key *key, const uint8_t *block, const uint8_t *encrypted)
+static void expect_encrypted(const char *what, const reference_words *expanded, const uint8_t *block,
+                             const uint8_t *encrypted)
 {
     uint8_t due[REFERENCE_BLOCK];
-    reference_encrypt_block(key, block, due);
+    reference_encrypt_block(expanded, block, due);
     expect_bytes(what, encrypted, due, REFERENCE_BLOCK);
 }
 
 /* Answers the clear book. */
-static byte_row check_book(const byte_row *key, const reference_key *expanded)
+static byte_row check_book(const reference_words *expanded)
 {
     byte_row clear = read_book(clear_fields + CONTENTS_FIELDS, CLEAR_FIELDS - CONTENTS_FIELDS);
     byte_row block = read_bytes(find_line("    block "));
@@ -149,8 +160,8 @@ static byte_row check_book(const byte_row *key, const reference_key *expanded)
     uint8_t chained[REFERENCE_BLOCK];
     if (block.len != REFERENCE_BLOCK)
         fail("the block is not 16 bytes long");
-    expect_call(CALL_ENCRYPT_BOOK, key, &clear, &sealed);
-    expect_call(CALL_DECRYPT_BOOK, key, &sealed, &clear);
+    expect_call(CALL_ENCRYPT_BOOK, &clear, &sealed);
+    expect_call(CALL_DECRYPT_BOOK, &sealed, &clear);
     for (size_t i = 0; i < REFERENCE_BLOCK; i++)
         chained[i] = clear.bytes[28 + i] ^ clear.bytes[12 + i];
     expect_bytes("block", block.bytes, chained, REFERENCE_BLOCK);
@@ -159,7 +170,7 @@ static byte_row check_book(const byte_row *key, const reference_key *expanded)
 }
 
 /* One of the note's counter blocks, and it encrypted. */
-static byte_row check_counter(const reference_key *expanded)
+static byte_row check_counter(const reference_words *expanded)
 {
     byte_row counter = read_bytes(find_line("    counter "));
     byte_row encrypted = read_bytes(find_line("    encrypted "));
@@ -169,15 +180,15 @@ static byte_row check_counter(const reference_key *expanded)
     return counter;
 }
 
-static void check_note(const byte_row *key, const reference_key *expanded)
+static void check_note(const reference_words *expanded)
 {
-    static const char words[] = "lodged after the storm";
+    static const char due[] = "lodged after the storm";
     byte_row text = read_bytes(find_line("    text "));
     byte_row first = check_counter(expanded), second = check_counter(expanded);
     byte_row sealed = read_bytes(find_line("    sealed "));
-    call_input in = {CALL_CRYPT_NOTE, key->bytes, key->len, 1, text.bytes, text.len, text.len, first.bytes, first.len};
-    if (text.len != strlen(words) || memcmp(text.bytes, words, text.len) != 0 || sealed.len != text.len)
-        fail("the text is not '%s', or the sealed note is not as long", words);
+    call_input in = {CALL_CRYPT_NOTE, words, sizeof words, 1, text.bytes, text.len, text.len, first.bytes, first.len};
+    if (text.len != strlen(due) || memcmp(text.bytes, due, text.len) != 0 || sealed.len != text.len)
+        fail("the text is not '%s', or the sealed note is not as long", due);
     compare_ways(&in, text.len, "worked note");
     expect_bytes("sealed note", sealed.bytes, last_output(), sealed.len);
     in.counter = second.bytes;
@@ -212,7 +223,7 @@ static void check_page(const byte_row *clear)
 int main(int argc, char **argv)
 {
     byte_row key, clear;
-    reference_key expanded;
+    reference_words expanded;
     start_test("format", 1, argv);
     if (argc != 3 || (page = fopen(argv[1], "r")) == NULL)
         fail("usage: format FORMAT.md KEY.hex");
@@ -220,10 +231,10 @@ int main(int argc, char **argv)
     key = read_bytes(find_line("    key "));
     if (key.len != 16 || memcmp(key.bytes, read_key_file(argv[2]).bytes, 16) != 0)
         fail("the key is not that of %s, or not 16 bytes long", argv[2]);
-    reference_expand_key(&expanded, key.bytes, key.len);
-    clear = check_book(&key, &expanded);
+    expand_key(&key, &expanded);
+    clear = check_book(&expanded);
     find_line("## A worked note");
-    check_note(&key, &expanded);
+    check_note(&expanded);
     find_line("## A worked page");
     check_page(&clear);
     printf("format: passed: the worked book, %d fields and two times %d bytes, the worked note and the worked page\n",

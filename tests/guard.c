@@ -101,8 +101,8 @@ static void compare_room(const call_input *in, const fenced *out, const uint8_t 
 static verdict fenced_call(const call_input *in, placement where, int output_access)
 {
     static uint8_t expected[MAX_OUTPUT + 2 * 65536];
-    size_t key_len = call_has_key(in->kind) ? in->key_len : 0;
-    fenced key = fenced_input(in->key, key_len, where);
+    size_t secret_len = call_has_secret(in->kind) ? in->secret_len : 0;
+    fenced secret = fenced_input(in->secret, secret_len, where);
     fenced counter = fenced_input(in->counter, in->counter_len, where);
     fenced input = fenced_input(in->input, in->input_len, where);
     fenced out = new_fenced(in->out_len, where);
@@ -111,7 +111,7 @@ static verdict fenced_call(const call_input *in, placement where, int output_acc
     uint64_t answer;
     memcpy(expected, out.room, out.room_len);
     v = reference_call(in, expected + (out.bytes - out.room));
-    lent.key = key.bytes;
+    lent.secret = secret.bytes;
     lent.counter = counter.bytes;
     lent.input = input.bytes;
     protect(out.room, out.room_len, output_access);
@@ -120,7 +120,7 @@ static verdict fenced_call(const call_input *in, placement where, int output_acc
     if (answer != v.answer)
         fail_answer(in, "fenced", answer, v.answer);
     compare_room(in, &out, expected);
-    unmap_fenced(&key);
+    unmap_fenced(&secret);
     unmap_fenced(&counter);
     unmap_fenced(&input);
     unmap_fenced(&out);
@@ -141,8 +141,8 @@ static void guard_case(const test_case *c)
     fenced_call(&c->in, AT_END, PROT_READ);
 }
 
-/* A valid case with every length that its key, counter block, input or output
- * can be given, and every sheet, up to a little above the right one. */
+/* A valid case with every length that its key or words, counter block, input
+ * or output can be given, and every sheet, up to a little above the right one. */
 static void guard_lengths(call_kind kind, uint64_t way)
 {
     static test_case c;
@@ -153,7 +153,7 @@ static void guard_lengths(call_kind kind, uint64_t way)
     c.in.way = way;
     right = c.in;
     if (kind != CALL_PAGE)
-        for (c.in.key_len = 0; c.in.key_len <= MAX_KEY; c.in.key_len++)
+        for (c.in.secret_len = 0; c.in.secret_len <= MAX_SECRET; c.in.secret_len++)
             guard_case(&c);
     c.in = right;
     for (c.in.out_len = 0; c.in.out_len <= right.out_len + 20; c.in.out_len++)
@@ -251,7 +251,7 @@ static void expect(const call_input *in, uint8_t *out, int check, const char *wh
 
 static void null_pointers(void)
 {
-    uint8_t out[368] = {0}, key[16] = {0}, block[16] = {0}, book[4] = {0, 0, 0, 0};
+    uint8_t out[368] = {0}, key[16] = {0}, words[160] = {0}, block[16] = {0}, book[4] = {0, 0, 0, 0};
     stated = 0;
     expect(&(call_input){CALL_CONSTANTS, NULL, 16, 0, NULL, 0, 0}, NULL, 4, "null output");
     expect(&(call_input){CALL_CONSTANTS, NULL, 17, 0, NULL, 0, 0}, NULL, 1, "null output");
@@ -260,25 +260,25 @@ static void null_pointers(void)
         expect(&(call_input){CALL_EXPAND_KEY, key, 16, way, NULL, 0, 0}, NULL, 4, "null output");
         expect(&(call_input){CALL_EXPAND_KEY, NULL, 0, way, NULL, 0, 0}, NULL, 1, "null key and output");
         for (int kind = CALL_ENCRYPT_BLOCK; kind <= CALL_DECRYPT_BLOCK; kind++) {
-            expect(&(call_input){(call_kind)kind, NULL, 0, way, block, 16, 16}, out, 1, "null key");
-            expect(&(call_input){(call_kind)kind, key, 16, way, NULL, 0, 16}, out, 3, "null block");
-            expect(&(call_input){(call_kind)kind, key, 16, way, block, 16, 0}, NULL, 4, "null output");
-            expect(&(call_input){(call_kind)kind, NULL, 0, way, NULL, 0, 0}, NULL, 1, "all null");
+            expect(&(call_input){(call_kind)kind, NULL, 0, way, block, 16, 16}, out, 14, "null words");
+            expect(&(call_input){(call_kind)kind, words, 160, way, NULL, 0, 16}, out, 3, "null block");
+            expect(&(call_input){(call_kind)kind, words, 160, way, block, 16, 0}, NULL, 4, "null output");
+            expect(&(call_input){(call_kind)kind, NULL, 0, way, NULL, 0, 0}, NULL, 14, "all null");
         }
         for (int kind = CALL_ENCRYPT_BOOK; kind <= CALL_DECRYPT_BOOK; kind++) {
             book[0] = kind == CALL_ENCRYPT_BOOK ? CLEAR_BOOK : SEALED_BOOK;
-            expect(&(call_input){(call_kind)kind, NULL, 0, way, book, 4, 4}, out, 1, "null key");
-            expect(&(call_input){(call_kind)kind, key, 16, way, NULL, 0, 4}, out, 4, "null book");
-            expect(&(call_input){(call_kind)kind, key, 16, way, book, 4, 0}, NULL, 4, "null output");
-            expect(&(call_input){(call_kind)kind, key, 16, way, NULL, 0, 0}, NULL, 5, "null book and output");
-            expect(&(call_input){(call_kind)kind, NULL, 0, way, NULL, 0, 0}, NULL, 1, "all null");
+            expect(&(call_input){(call_kind)kind, NULL, 0, way, book, 4, 4}, out, 14, "null words");
+            expect(&(call_input){(call_kind)kind, words, 160, way, NULL, 0, 4}, out, 4, "null book");
+            expect(&(call_input){(call_kind)kind, words, 160, way, book, 4, 0}, NULL, 4, "null output");
+            expect(&(call_input){(call_kind)kind, words, 160, way, NULL, 0, 0}, NULL, 5, "null book and output");
+            expect(&(call_input){(call_kind)kind, NULL, 0, way, NULL, 0, 0}, NULL, 14, "all null");
         }
-        expect(&(call_input){CALL_CRYPT_NOTE, NULL, 0, way, block, 16, 16, block, 16}, out, 1, "null key");
-        expect(&(call_input){CALL_CRYPT_NOTE, key, 16, way, block, 16, 16, NULL, 0}, out, 3, "null counter block");
-        expect(&(call_input){CALL_CRYPT_NOTE, key, 16, way, NULL, 0, 16, block, 16}, out, 4, "null note");
-        expect(&(call_input){CALL_CRYPT_NOTE, key, 16, way, block, 16, 0, block, 16}, NULL, 4, "null output");
-        expect(&(call_input){CALL_CRYPT_NOTE, key, 16, way, NULL, 0, 0, block, 16}, NULL, 0, "null note and output");
-        expect(&(call_input){CALL_CRYPT_NOTE, NULL, 0, way, NULL, 0, 0, NULL, 0}, NULL, 1, "all null");
+        expect(&(call_input){CALL_CRYPT_NOTE, NULL, 0, way, block, 16, 16, block, 16}, out, 14, "null words");
+        expect(&(call_input){CALL_CRYPT_NOTE, words, 160, way, block, 16, 16, NULL, 0}, out, 3, "null counter block");
+        expect(&(call_input){CALL_CRYPT_NOTE, words, 160, way, NULL, 0, 16, block, 16}, out, 4, "null note");
+        expect(&(call_input){CALL_CRYPT_NOTE, words, 160, way, block, 16, 0, block, 16}, NULL, 4, "null output");
+        expect(&(call_input){CALL_CRYPT_NOTE, words, 160, way, NULL, 0, 0, block, 16}, NULL, 0, "null note and output");
+        expect(&(call_input){CALL_CRYPT_NOTE, NULL, 0, way, NULL, 0, 0, NULL, 0}, NULL, 14, "all null");
     }
     book[0] = CLEAR_BOOK;
     expect(&(call_input){CALL_PAGE, NULL, 0, 0, NULL, 0, 64}, out, 5, "null book");
@@ -298,7 +298,7 @@ static void wide_lengths(void)
     const size_t wide = (size_t)1 << 32;
     const size_t mapped = wide + 4096;
     uint8_t *m = mmap(NULL, mapped, PROT_READ, MAP_PRIVATE | MAP_ANONYMOUS | MAP_NORESERVE, -1, 0);
-    uint8_t key[16] = {0}, block[16] = {0}, book[4] = {0, 0, 0, 0};
+    uint8_t key[16] = {0}, words[160] = {0}, block[16] = {0}, book[4] = {0, 0, 0, 0};
     if (m == MAP_FAILED) {
         printf("guard: no address space for lengths above 2^32, skipped\n");
         return;
@@ -309,22 +309,25 @@ static void wide_lengths(void)
         expect(&(call_input){CALL_EXPAND_KEY, m, wide + 16, way, NULL, 0, 160}, m, 1, "wide key");
         expect(&(call_input){CALL_EXPAND_KEY, key, 16, way, NULL, 0, wide + 160}, m, 4, "wide output");
         for (int kind = CALL_ENCRYPT_BLOCK; kind <= CALL_DECRYPT_BLOCK; kind++) {
-            expect(&(call_input){(call_kind)kind, m, wide + 16, way, block, 16, 16}, m, 1, "wide key");
-            expect(&(call_input){(call_kind)kind, key, 16, way, m, wide + 16, 16}, m, 3, "wide block");
-            expect(&(call_input){(call_kind)kind, key, 16, way, block, 16, wide + 16}, m, 4, "wide output");
+            for (size_t len = 160; len <= 224; len += 32)
+                expect(&(call_input){(call_kind)kind, m, wide + len, way, block, 16, 16}, m, 14, "wide words");
+            expect(&(call_input){(call_kind)kind, words, 160, way, m, wide + 16, 16}, m, 3, "wide block");
+            expect(&(call_input){(call_kind)kind, words, 160, way, block, 16, wide + 16}, m, 4, "wide output");
         }
         for (int kind = CALL_ENCRYPT_BOOK; kind <= CALL_DECRYPT_BOOK; kind++) {
             book[0] = kind == CALL_ENCRYPT_BOOK ? CLEAR_BOOK : SEALED_BOOK;
-            expect(&(call_input){(call_kind)kind, m, wide + 16, way, book, 4, 4}, m, 1, "wide key");
-            expect(&(call_input){(call_kind)kind, key, 16, way, book, 4, wide + 4}, m, 4, "wide output");
-            expect(&(call_input){(call_kind)kind, key, 16, way, m, wide + 4, 4}, m, 4, "wide book");
-            expect(&(call_input){(call_kind)kind, key, 16, way, m, wide + 4, wide + 4}, m, 5, "wide book and output");
+            for (size_t len = 160; len <= 224; len += 32)
+                expect(&(call_input){(call_kind)kind, m, wide + len, way, book, 4, 4}, m, 14, "wide words");
+            expect(&(call_input){(call_kind)kind, words, 160, way, book, 4, wide + 4}, m, 4, "wide output");
+            expect(&(call_input){(call_kind)kind, words, 160, way, m, wide + 4, 4}, m, 4, "wide book");
+            expect(&(call_input){(call_kind)kind, words, 160, way, m, wide + 4, wide + 4}, m, 5, "wide book and output");
         }
-        expect(&(call_input){CALL_CRYPT_NOTE, m, wide + 16, way, block, 16, 16, block, 16}, m, 1, "wide key");
-        expect(&(call_input){CALL_CRYPT_NOTE, key, 16, way, block, 16, 16, m, wide + 16}, m, 3, "wide counter block");
-        expect(&(call_input){CALL_CRYPT_NOTE, key, 16, way, block, 16, wide + 16, block, 16}, m, 4, "wide output");
-        expect(&(call_input){CALL_CRYPT_NOTE, key, 16, way, m, wide + 16, 16, block, 16}, m, 4, "wide note");
-        expect(&(call_input){CALL_CRYPT_NOTE, key, 16, way, m, wide + 16, wide + 16, block, 16}, m, 12,
+        for (size_t len = 160; len <= 224; len += 32)
+            expect(&(call_input){CALL_CRYPT_NOTE, m, wide + len, way, block, 16, 16, block, 16}, m, 14, "wide words");
+        expect(&(call_input){CALL_CRYPT_NOTE, words, 160, way, block, 16, 16, m, wide + 16}, m, 3, "wide counter block");
+        expect(&(call_input){CALL_CRYPT_NOTE, words, 160, way, block, 16, wide + 16, block, 16}, m, 4, "wide output");
+        expect(&(call_input){CALL_CRYPT_NOTE, words, 160, way, m, wide + 16, 16, block, 16}, m, 4, "wide note");
+        expect(&(call_input){CALL_CRYPT_NOTE, words, 160, way, m, wide + 16, wide + 16, block, 16}, m, 12,
                "wide note and output");
     }
     expect(&(call_input){CALL_PAGE, NULL, 0, 0, m, wide + 4, 64}, m, 5, "wide book");

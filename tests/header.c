@@ -33,6 +33,7 @@ static void check_lengths(void)
     EXPECT(PLANBOOK_EXPANDED128_BYTES, 4 * 40);
     EXPECT(PLANBOOK_EXPANDED192_BYTES, 4 * 48);
     EXPECT(PLANBOOK_EXPANDED256_BYTES, 4 * 56);
+    EXPECT(PLANBOOK_MAX_EXPANDED_BYTES, REFERENCE_MAX_WORDS_LENGTH);
     EXPECT(PLANBOOK_HEAD_BYTES, HEAD_LENGTH);
     EXPECT(PLANBOOK_ENTRY_BYTES, ENTRY_LENGTH);
     EXPECT(PLANBOOK_RECORD_BYTES, RECORD_LENGTH);
@@ -74,6 +75,7 @@ static void check_numbers(void)
     EXPECT(PLANBOOK_CHECK_RECORD, CHECK_RECORD);
     EXPECT(PLANBOOK_CHECK_NOTE_LENGTH, CHECK_NOTE_LENGTH);
     EXPECT(PLANBOOK_CHECK_SHEET_INDEX, CHECK_SHEET_INDEX);
+    EXPECT(PLANBOOK_CHECK_WORDS_LENGTH, CHECK_WORDS);
 }
 
 static void check_helpers(void)
@@ -89,6 +91,37 @@ static void check_helpers(void)
         for (uint32_t b = 0; b < a; b++)
             expect("two checks with one sentence",
                    strcmp(planbook_check_sentence(a), planbook_check_sentence(b)) == 0, 0);
+}
+
+static void check_expanded_length(void)
+{
+    static const size_t beyond[] = {
+        128, 160, 192, 224, 256, 256 + 16, 256 + 24, 256 + 32, 65536 + 16, ((size_t)1 << 32) + 16, ((size_t)1 << 32) + 24,
+        ((size_t)1 << 63) + 32, SIZE_MAX, SIZE_MAX - 15,
+    };
+    for (size_t len = 0; len <= 70; len++) {
+        char name[80];
+        snprintf(name, sizeof name, "planbook_expanded_length of %lu", (unsigned long)len);
+        expect(name, planbook_expanded_length(len), len == 16 ? 160 : len == 24 ? 192 : len == 32 ? 224 : 0);
+    }
+    for (size_t i = 0; i < sizeof beyond / sizeof beyond[0]; i++)
+        expect("planbook_expanded_length of a length that is no key's", planbook_expanded_length(beyond[i]), 0);
+}
+
+/* Each byte that is named, and none beside; stack.c looks at what the compiler leaves of it. */
+static void check_wipe(void)
+{
+    uint8_t bytes[304];
+    for (size_t from = 0; from <= 3; from++)
+        for (size_t len = 0; len <= 300; len++) {
+            size_t at = 0;
+            memset(bytes, 0xa5, sizeof bytes);
+            planbook_wipe(bytes + from, len);
+            while (at < sizeof bytes && bytes[at] == (at < from || at >= from + len ? 0xa5 : 0))
+                at++;
+            expect("the bytes that planbook_wipe leaves right", at, sizeof bytes);
+        }
+    planbook_wipe(NULL, 0);
 }
 
 /* The contents of 64 sheets, of which each entry has the record count that is looked at, and room for two more. */
@@ -170,8 +203,10 @@ int main(void)
     check_lengths();
     check_numbers();
     check_helpers();
+    check_expanded_length();
+    check_wipe();
     check_page_length();
     if (!wrong)
-        printf("header: passed: lengths, ways, checks and helpers, that of a page's length among them\n");
+        printf("header: passed: lengths, ways, checks and helpers, those of a page's and of words' length among them\n");
     return wrong;
 }

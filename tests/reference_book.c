@@ -22,9 +22,14 @@ const char *call_name(call_kind kind)
     return names[kind];
 }
 
-int call_has_key(call_kind kind)
+int call_has_secret(call_kind kind)
 {
     return kind != CALL_CONSTANTS && kind != CALL_PAGE;
+}
+
+int call_has_words(call_kind kind)
+{
+    return call_has_secret(kind) && kind != CALL_EXPAND_KEY;
 }
 
 int call_is_block(call_kind kind)
@@ -49,6 +54,8 @@ int call_has_input(call_kind kind)
 
 int check_place(call_kind kind, int check)
 {
+    if (check == CHECK_WORDS)
+        return CHECK_KEY;
     return kind == CALL_PAGE && check == CHECK_OUTPUT_LENGTH ? LAST_CHECK + 1 : check;
 }
 
@@ -87,11 +94,16 @@ static book_view view_book(const uint8_t *bytes, size_t len)
     return book;
 }
 
-/* Checks 1 to 4, and 12. */
+/* Checks 1 to 4, 12 and 14. */
 
 static int key_length_permitted(uint64_t len)
 {
     return len == 16 || len == 24 || len == 32;
+}
+
+static int words_length_permitted(uint64_t len)
+{
+    return len == 160 || len == 192 || len == 224;
 }
 
 static size_t words_for(call_kind kind, uint64_t key_len)
@@ -121,7 +133,7 @@ size_t reference_output_length(const call_input *in)
         return in->input_len;
     if (call_is_block(in->kind))
         return REFERENCE_BLOCK;
-    return 4 * words_for(in->kind, in->key_len);
+    return 4 * words_for(in->kind, in->secret_len);
 }
 
 /* Two lines are the least, since no sheet is empty. */
@@ -135,7 +147,7 @@ static int output_length_wrong(const call_input *in)
     size_t len = in->out_len;
     if (in->kind == CALL_PAGE && page_length(in) == 0)
         return !page_may_have_length(len);
-    if (call_has_input(in->kind) || key_length_permitted(in->key_len))
+    if (call_has_input(in->kind) || key_length_permitted(in->secret_len))
         return len != reference_output_length(in);
     return len != 4 * words_for(in->kind, 16) && len != 4 * words_for(in->kind, 24) &&
            len != 4 * words_for(in->kind, 32);
@@ -144,9 +156,11 @@ static int output_length_wrong(const call_input *in)
 static unsigned failing_without_book(const call_input *in)
 {
     unsigned failing = 0;
-    if (in->kind != CALL_PAGE && !key_length_permitted(in->key_len))
+    if ((in->kind == CALL_CONSTANTS || in->kind == CALL_EXPAND_KEY) && !key_length_permitted(in->secret_len))
         failing |= bit(CHECK_KEY);
-    if (call_has_key(in->kind) && in->way != 1 && in->way != 2 && in->way != 3)
+    if (call_has_words(in->kind) && !words_length_permitted(in->secret_len))
+        failing |= bit(CHECK_WORDS);
+    if (call_has_secret(in->kind) && in->way != 1 && in->way != 2 && in->way != 3)
         failing |= bit(CHECK_WAY);
     if (call_is_block(in->kind) && in->input_len != REFERENCE_BLOCK)
         failing |= bit(CHECK_BLOCK_LENGTH);
@@ -218,23 +232,23 @@ static void xor_block(uint8_t *to, const uint8_t *a, const uint8_t *b)
         to[i] = a[i] ^ b[i];
 }
 
-static void encrypt_record(const reference_key *key, const uint8_t *chain, const uint8_t *in, uint8_t *out)
+static void encrypt_record(const reference_words *words, const uint8_t *chain, const uint8_t *in, uint8_t *out)
 {
     uint8_t block[REFERENCE_BLOCK];
     xor_block(block, in, chain);
-    reference_encrypt_block(key, block, out);
+    reference_encrypt_block(words, block, out);
 }
 
-static void decrypt_record(const reference_key *key, const uint8_t *chain, const uint8_t *in, uint8_t *out)
+static void decrypt_record(const reference_words *words, const uint8_t *chain, const uint8_t *in, uint8_t *out)
 {
     uint8_t block[REFERENCE_BLOCK];
-    reference_decrypt_block(key, in, block);
+    reference_decrypt_block(words, in, block);
     xor_block(out, block, chain);
 }
 
 /* Whether some record that is there breaks its rule. clear is a copy of the
- * book; with a key, its records are decrypted up to the first that does. */
-static int some_record_breaks_rule(const book_view *book, const reference_key *key, uint8_t *clear)
+ * book; with words, its records are decrypted up to the first that does. */
+static int some_record_breaks_rule(const book_view *book, const reference_words *words, uint8_t *clear)
 {
     size_t next = contents_end(book);
     if (book->entries < book->sheets)
@@ -244,8 +258,8 @@ static int some_record_breaks_rule(const book_view *book, const reference_key *k
         size_t at = next;
         size_t there = records_there(book, i, &next);
         for (size_t j = 0; j < there; j++, at += RECORD_LENGTH) {
-            if (key != NULL)
-                decrypt_record(key, chain, book->bytes + at, clear + at);
+            if (words != NULL)
+                decrypt_record(words, chain, book->bytes + at, clear + at);
             chain = book->bytes + at;
             if (!record_holds(clear + at, entry_of(book, i)))
                 return 1;
@@ -255,7 +269,7 @@ static int some_record_breaks_rule(const book_view *book, const reference_key *k
 }
 
 /* Each sheet begins at its own iv. */
-void reference_encrypt_bodies(const reference_key *key, const uint8_t *bytes, size_t len, uint8_t *out)
+void reference_encrypt_bodies(const reference_words *words, const uint8_t *bytes, size_t len, uint8_t *out)
 {
     book_view book = view_book(bytes, len);
     size_t next = contents_end(&book);
@@ -267,7 +281,7 @@ void reference_encrypt_bodies(const reference_key *key, const uint8_t *bytes, si
         size_t at = next;
         size_t there = records_there(&book, i, &next);
         for (size_t j = 0; j < there; j++, at += RECORD_LENGTH) {
-            encrypt_record(key, chain, bytes + at, out + at);
+            encrypt_record(words, chain, bytes + at, out + at);
             chain = out + at;
         }
     }
@@ -341,13 +355,13 @@ static uint8_t *allocate(size_t len)
 }
 
 /* What the book becomes. clear is a copy of it in which the records are decrypted already. Answers the count. */
-static uint64_t write_book(const call_input *in, const book_view *book, const reference_key *key, const uint8_t *clear,
-                           uint8_t *out)
+static uint64_t write_book(const call_input *in, const book_view *book, const reference_words *words,
+                           const uint8_t *clear, uint8_t *out)
 {
     if (in->kind == CALL_PAGE)
         return write_page(book, in->sheet, out);
     if (in->kind == CALL_ENCRYPT_BOOK)
-        reference_encrypt_bodies(key, book->bytes, book->len, out);
+        reference_encrypt_bodies(words, book->bytes, book->len, out);
     else
         memcpy(out, clear, book->len);
     out[0] = in->kind == CALL_ENCRYPT_BOOK ? SEALED_BOOK : CLEAR_BOOK;
@@ -362,16 +376,16 @@ static verdict book_verdict(const call_input *in, unsigned failing, uint8_t *out
     uint8_t *clear = allocate(book.len);
     verdict v = {failing | failing_contents(in, &book), 0};
     int decrypting = in->kind == CALL_DECRYPT_BOOK;
-    int has_key = call_has_key(in->kind) && key_length_permitted(in->key_len);
-    reference_key key;
+    int has_words = call_has_words(in->kind) && words_length_permitted(in->secret_len);
+    reference_words words;
 
-    if (has_key)
-        reference_expand_key(&key, in->key, in->key_len);
+    if (has_words)
+        reference_load_words(&words, in->secret, in->secret_len);
     memcpy(clear, book.bytes, book.len);
-    if ((!decrypting || has_key) && some_record_breaks_rule(&book, decrypting ? &key : NULL, clear))
+    if ((!decrypting || has_words) && some_record_breaks_rule(&book, decrypting ? &words : NULL, clear))
         v.failing |= bit(CHECK_RECORD);
     if (v.failing == 0)
-        v.answer = write_book(in, &book, &key, clear, out);
+        v.answer = write_book(in, &book, &words, clear, out);
     free(clear);
     return v;
 }
@@ -386,12 +400,12 @@ static void count_up(uint8_t *counter)
             return;
 }
 
-static uint64_t crypt_note(const reference_key *key, const call_input *in, uint8_t *out)
+static uint64_t crypt_note(const reference_words *words, const call_input *in, uint8_t *out)
 {
     uint8_t counter[COUNTER_LENGTH], encrypted[REFERENCE_BLOCK];
     memcpy(counter, in->counter, COUNTER_LENGTH);
     for (size_t at = 0; at < in->input_len; at += REFERENCE_BLOCK) {
-        reference_encrypt_block(key, counter, encrypted);
+        reference_encrypt_block(words, counter, encrypted);
         for (size_t i = 0; i < REFERENCE_BLOCK && at + i < in->input_len; i++)
             out[at + i] = in->input[at + i] ^ encrypted[i];
         count_up(counter);
@@ -401,33 +415,38 @@ static uint64_t crypt_note(const reference_key *key, const call_input *in, uint8
 
 /* Accepted outputs of the other calls; each answers its count. */
 
-static uint64_t write_words(uint8_t *out, const uint32_t *words, size_t count)
+static uint64_t write_constants(uint64_t key_len, uint8_t *out)
 {
+    size_t count;
+    const uint32_t *words = reference_constants(key_len, &count);
     for (size_t i = 0; i < count; i++)
         reference_store_word(out + 4 * i, words[i]);
     return count;
 }
 
+static uint64_t write_expanded_key(const call_input *in, uint8_t *out)
+{
+    reference_words words;
+    reference_expand_key(&words, in->secret, in->secret_len);
+    return reference_store_words(out, &words);
+}
+
 static uint64_t accepted(const call_input *in, uint8_t *out)
 {
-    reference_key key;
-    size_t count;
-    if (in->kind == CALL_CONSTANTS) {
-        const uint32_t *words = reference_constants(in->key_len, &count);
-        return write_words(out, words, count);
-    }
-    reference_expand_key(&key, in->key, in->key_len);
+    reference_words words;
+    if (in->kind == CALL_CONSTANTS)
+        return write_constants(in->secret_len, out);
+    if (in->kind == CALL_EXPAND_KEY)
+        return write_expanded_key(in, out);
+    reference_load_words(&words, in->secret, in->secret_len);
     switch (in->kind) {
-    case CALL_EXPAND_KEY:
-        write_words(out, key.whitening, 4);
-        return 4 + write_words(out + 16, key.round_keys, 2 * key.rounds);
     case CALL_ENCRYPT_BLOCK:
-        reference_encrypt_block(&key, in->input, out);
+        reference_encrypt_block(&words, in->input, out);
         return 1;
     case CALL_CRYPT_NOTE:
-        return crypt_note(&key, in, out);
+        return crypt_note(&words, in, out);
     default:
-        reference_decrypt_block(&key, in->input, out);
+        reference_decrypt_block(&words, in->input, out);
         return 1;
     }
 }

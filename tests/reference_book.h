@@ -7,17 +7,17 @@
  * two can agree only if the order of the checks is right too.
  *
  * A check that reads bytes is judged on those that are there:
- *   1 to 5   always, in the calls that have them, and so is 12; 4 fails beside
- *            a wrong key length if the output fits none of the permitted ones,
- *            and beside a sheet whose record count is not there or above
- *            1,024 if no page is as long as the output;
+ *   1 to 5   always, in the calls that have them, and so are 12 and 14; 4
+ *            fails beside a wrong key length if the output fits none of the
+ *            permitted ones, and beside a sheet whose record count is not
+ *            there or above 1,024 if no page is as long as the output;
  *   6        if a byte that is there shows it;
  *   7, 8     if the head is there;
  *   9        if some entry that lies whole in the book is broken;
  *   10       if the head is there; R is summed over the entries that are there;
  *   11       if the contents are whole; each record that lies whole in the book
  *            is held against the entry whose count reaches it. When decrypting
- *            it needs a key of a permitted length;
+ *            it needs words of a permitted length;
  *   13       if the head is there.
  * Two checks fail together on an input if both fail in this sense. The test
  * counts such a pair where the earlier of the two is the answer.
@@ -41,7 +41,8 @@ enum {
     CHECK_RECORD,
     CHECK_NOTE_LENGTH,
     CHECK_SHEET_INDEX,
-    LAST_CHECK = CHECK_SHEET_INDEX
+    CHECK_WORDS,
+    LAST_CHECK = CHECK_WORDS
 };
 
 enum {
@@ -85,13 +86,15 @@ typedef enum {
 #pragma GCC diagnostic ignored "-Wmissing-field-initializers"
 #endif
 
-/* What is lent in one call. Constants have no key, way or input; key_len is
- * then the number that is given in its place. Only a note has a counter block;
- * the note itself is the input. Only a page has a sheet, and no key or way. */
+/* What is lent in one call. The secret is the key where one is expanded, and
+ * the words in the calls for blocks, books and notes. Constants have no secret,
+ * way or input; secret_len is then the key length that is given as a number.
+ * Only a note has a counter block; the note itself is the input. Only a page
+ * has a sheet, and no secret or way. */
 typedef struct {
     call_kind kind;
-    const uint8_t *key;
-    uint64_t key_len;
+    const uint8_t *secret;
+    uint64_t secret_len;
     uint64_t way;
     const uint8_t *input;
     size_t input_len;
@@ -107,14 +110,16 @@ typedef struct {
 } verdict;
 
 const char *call_name(call_kind kind);
-int call_has_key(call_kind kind); /* the bytes of a key, and a way */
+int call_has_words(call_kind kind);
+int call_has_secret(call_kind kind); /* the bytes of a key or of words, and a way */
 int call_is_block(call_kind kind);
 int call_is_book(call_kind kind); /* the input is a book */
 int call_is_long(call_kind kind); /* it is a book or a note */
 int call_has_input(call_kind kind);
 
-/* Where a check stands in a call's order: at its number; but 4 comes last in a
- * page, whose length the book says. */
+/* Where a check stands in a call's order: at its number; but 14 stands where 1
+ * does in the calls with a key, and 4 comes last in a page, whose length the
+ * book says. */
 int check_place(call_kind kind, int check);
 
 /* The bytes of output that a call asks for where its other lengths are right;
@@ -132,6 +137,6 @@ verdict reference_call(const call_input *in, uint8_t *out);
 
 /* Encrypts the records of each sheet that are there, whatever else is wrong
  * with the book, and copies all other bytes. */
-void reference_encrypt_bodies(const reference_key *key, const uint8_t *book, size_t len, uint8_t *out);
+void reference_encrypt_bodies(const reference_words *words, const uint8_t *book, size_t len, uint8_t *out);
 
 #endif

@@ -298,7 +298,7 @@ static void next_round_keys(uint32_t round_keys[4], uint32_t intermediate[4], co
 }
 
 /* Section 2.4.2. */
-static void expand_128(reference_key *e, const uint32_t k[4])
+static void expand_128(reference_words *e, const uint32_t k[4])
 {
     uint32_t l[4];
     for (unsigned i = 0; i < 4; i++)
@@ -309,7 +309,7 @@ static void expand_128(reference_key *e, const uint32_t k[4])
 }
 
 /* Sections 2.4.3 and 2.4.4, from step 3 on. */
-static void expand_192_256(reference_key *e, const uint32_t kl[4], const uint32_t kr[4],
+static void expand_192_256(reference_words *e, const uint32_t kl[4], const uint32_t kr[4],
                            const uint32_t *constants, unsigned last)
 {
     uint32_t l[8];
@@ -327,23 +327,41 @@ static void expand_192_256(reference_key *e, const uint32_t kl[4], const uint32_
     }
 }
 
-void reference_expand_key(reference_key *expanded, const uint8_t *key, size_t key_len)
+void reference_expand_key(reference_words *words, const uint8_t *key, size_t key_len)
 {
     uint32_t k[8] = {0};
     for (size_t i = 0; i < key_len / 4; i++)
         k[i] = reference_load_word(key + 4 * i);
     if (key_len == 16) {
-        expanded->rounds = 18;
-        expand_128(expanded, k);
+        words->rounds = 18;
+        expand_128(words, k);
     } else if (key_len == 24) {
         k[6] = ~k[0];
         k[7] = ~k[1];
-        expanded->rounds = 22;
-        expand_192_256(expanded, k, k + 4, constants_192, 10);
+        words->rounds = 22;
+        expand_192_256(words, k, k + 4, constants_192, 10);
     } else {
-        expanded->rounds = 26;
-        expand_192_256(expanded, k, k + 4, constants_256, 12);
+        words->rounds = 26;
+        expand_192_256(words, k, k + 4, constants_256, 12);
     }
+}
+
+void reference_load_words(reference_words *words, const uint8_t *bytes, size_t len)
+{
+    words->rounds = len == 160 ? 18 : len == 192 ? 22 : 26;
+    for (unsigned i = 0; i < 4; i++)
+        words->whitening[i] = reference_load_word(bytes + 4 * i);
+    for (unsigned i = 0; i < 2 * words->rounds; i++)
+        words->round_keys[i] = reference_load_word(bytes + 16 + 4 * i);
+}
+
+size_t reference_store_words(uint8_t *bytes, const reference_words *words)
+{
+    for (unsigned i = 0; i < 4; i++)
+        reference_store_word(bytes + 4 * i, words->whitening[i]);
+    for (unsigned i = 0; i < 2 * words->rounds; i++)
+        reference_store_word(bytes + 16 + 4 * i, words->round_keys[i]);
+    return 4 + 2 * words->rounds;
 }
 
 static void load_block(uint32_t t[4], const uint8_t in[16])
@@ -359,26 +377,26 @@ static void store_block(uint8_t out[16], const uint32_t t[4])
 }
 
 /* Section 2.3.1. */
-void reference_encrypt_block(const reference_key *expanded, const uint8_t in[16], uint8_t out[16])
+void reference_encrypt_block(const reference_words *words, const uint8_t in[16], uint8_t out[16])
 {
     uint32_t t[4];
     load_block(t, in);
-    t[1] ^= expanded->whitening[0];
-    t[3] ^= expanded->whitening[1];
-    gfn(t, 4, expanded->rounds, expanded->round_keys);
-    t[1] ^= expanded->whitening[2];
-    t[3] ^= expanded->whitening[3];
+    t[1] ^= words->whitening[0];
+    t[3] ^= words->whitening[1];
+    gfn(t, 4, words->rounds, words->round_keys);
+    t[1] ^= words->whitening[2];
+    t[3] ^= words->whitening[3];
     store_block(out, t);
 }
 
-void reference_decrypt_block(const reference_key *expanded, const uint8_t in[16], uint8_t out[16])
+void reference_decrypt_block(const reference_words *words, const uint8_t in[16], uint8_t out[16])
 {
     uint32_t t[4];
     load_block(t, in);
-    t[1] ^= expanded->whitening[2];
-    t[3] ^= expanded->whitening[3];
-    gfn4_inverse(t, expanded->rounds, expanded->round_keys);
-    t[1] ^= expanded->whitening[0];
-    t[3] ^= expanded->whitening[1];
+    t[1] ^= words->whitening[2];
+    t[3] ^= words->whitening[3];
+    gfn4_inverse(t, words->rounds, words->round_keys);
+    t[1] ^= words->whitening[0];
+    t[3] ^= words->whitening[1];
     store_block(out, t);
 }

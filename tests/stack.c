@@ -1,8 +1,10 @@
 /*
  * What a call leaves behind on the stack, and how much of it a call uses. Each call is made on a stack of its own, which is
- * then searched for the words of the key, of the expanded key, of the clear block, record or note, and of the encrypted
- * counter blocks, which open the sealed note: after planbook_wipe_stack there must be none; without it there must be some where
- * there is a key, or this test could not fail.
+ * then searched for the words of the key and of what it is expanded to, or the words that were lent, for those of the clear
+ * block, record or note, and of the encrypted counter blocks, which open the sealed note: after planbook_wipe_stack there must
+ * be none; without it there must be some where there is a key or are words, or this test could not fail.
+ *
+ * And so with planbook_wipe, where a function has the words in a buffer of its own.
  *
  *   stack [SEED]
  */
@@ -31,7 +33,7 @@ static ucontext_t outside, inside;
 
 /* One call, as the function on the other stack finds it: nothing secret goes through this file's own frames. */
 static call_input in;
-static uint8_t key[32], counter[COUNTER_LENGTH], input[256], output[PLANBOOK_CONSTANTS256_BYTES];
+static uint8_t secret[REFERENCE_MAX_WORDS_LENGTH], counter[COUNTER_LENGTH], input[256], output[PLANBOOK_CONSTANTS256_BYTES];
 static uint64_t answer;
 static int wipe;
 
@@ -45,7 +47,7 @@ static void call_and_wipe(void)
         planbook_wipe_stack();
 }
 
-static void run_on_own_stack(void)
+static void run_on_own_stack(void (*function)(void))
 {
     memset(stack, FILL, sizeof stack);
     if (getcontext(&inside) != 0)
@@ -53,7 +55,7 @@ static void run_on_own_stack(void)
     inside.uc_stack.ss_sp = stack;
     inside.uc_stack.ss_size = sizeof stack;
     inside.uc_link = &outside;
-    makecontext(&inside, call_and_wipe, 0);
+    makecontext(&inside, function, 0);
     if (swapcontext(&outside, &inside) != 0)
         fail("no other stack");
 }
@@ -72,13 +74,13 @@ static uint32_t turned(uint32_t word)
     return word >> 24 | (word >> 8 & 0xff00) | (word << 8 & 0xff0000) | word << 24;
 }
 
-/* How many of the secret words stand somewhere on the stack, in either order of their bytes. */
-static size_t secrets_found(void)
+/* How many of the secret words stand somewhere between two places of the stack, in either order of their bytes. */
+static size_t secrets_between(size_t first, size_t end)
 {
-    size_t found = 0, first = sizeof stack - depth();
+    size_t found = 0;
     for (size_t s = 0; s < secret_count; s++) {
         uint32_t word = secrets[s], other = turned(word);
-        for (size_t i = first; i + 4 <= sizeof stack; i++) {
+        for (size_t i = first; i + 4 <= end; i++) {
             uint32_t there = reference_load_word(stack + i);
             if (there == word || there == other) {
                 found++;
@@ -89,6 +91,11 @@ static size_t secrets_found(void)
     return found;
 }
 
+static size_t secrets_found(void)
+{
+    return secrets_between(sizeof stack - depth(), sizeof stack);
+}
+
 static void add_secrets(const uint8_t *bytes, size_t len)
 {
     for (size_t i = 0; i + 4 <= len; i += 4)
@@ -97,12 +104,10 @@ static void add_secrets(const uint8_t *bytes, size_t len)
 
 static void add_expanded_key(void)
 {
-    reference_key expanded;
-    reference_expand_key(&expanded, key, in.key_len);
-    memcpy(secrets + secret_count, expanded.whitening, sizeof expanded.whitening);
-    secret_count += 4;
-    memcpy(secrets + secret_count, expanded.round_keys, 4 * 2 * expanded.rounds);
-    secret_count += 2 * expanded.rounds;
+    uint8_t bytes[REFERENCE_MAX_WORDS_LENGTH];
+    reference_words expanded;
+    reference_expand_key(&expanded, secret, in.secret_len);
+    add_secrets(bytes, 4 * reference_store_words(bytes, &expanded));
 }
 
 /* A book of two sheets. The first three words of each record are secrets; trials, entries and plots are made high, since
@@ -126,26 +131,26 @@ static size_t make_book(uint8_t *book)
 static void make_block_input(void)
 {
     uint8_t clear[REFERENCE_BLOCK];
-    reference_key expanded;
+    reference_words words;
     random_fill(&random_source, clear, sizeof clear);
     add_secrets(clear, sizeof clear);
     memcpy(input, clear, sizeof clear);
-    reference_expand_key(&expanded, key, in.key_len);
+    reference_load_words(&words, secret, in.secret_len);
     if (in.kind == CALL_DECRYPT_BLOCK)
-        reference_encrypt_block(&expanded, clear, input);
+        reference_encrypt_block(&words, clear, input);
     in.input_len = sizeof clear;
 }
 
 static void make_book_input(void)
 {
     uint8_t clear[sizeof input];
-    reference_key expanded;
+    reference_words words;
     in.input_len = make_book(clear);
     memcpy(input, clear, in.input_len);
     if (in.kind != CALL_DECRYPT_BOOK)
         return;
-    reference_expand_key(&expanded, key, in.key_len);
-    reference_encrypt_bodies(&expanded, clear, in.input_len, input);
+    reference_load_words(&words, secret, in.secret_len);
+    reference_encrypt_bodies(&words, clear, in.input_len, input);
     input[0] = SEALED_BOOK;
 }
 
@@ -171,11 +176,13 @@ static void make_call(call_kind kind, uint64_t way, uint64_t key_len)
     memset(&in, 0, sizeof in);
     in.kind = kind;
     in.way = way;
-    in.key = key;
-    in.key_len = key_len;
+    in.secret = secret;
+    in.secret_len = call_has_words(kind) ? planbook_expanded_length(key_len) : key_len;
     in.input = input;
     secret_count = 0;
-    random_fill(&random_source, key, sizeof key);
+    random_fill(&random_source, secret, sizeof secret);
+    if (call_has_words(kind))
+        make_words(&random_source, secret, in.secret_len);
     if (call_is_block(kind))
         make_block_input();
     if (call_is_book(kind))
@@ -183,17 +190,17 @@ static void make_call(call_kind kind, uint64_t way, uint64_t key_len)
     if (kind == CALL_CRYPT_NOTE)
         make_note_input();
     in.out_len = reference_output_length(&in);
-    if (!call_has_key(kind))
-        return;
-    add_secrets(key, key_len);
-    add_expanded_key();
+    if (call_has_secret(kind))
+        add_secrets(secret, in.secret_len);
+    if (kind == CALL_EXPAND_KEY)
+        add_expanded_key();
 }
 
 /* Runs the call, which must be accepted or refused as stated; answers how many secret words it left. */
 static size_t words_left(int wiping, int accepted)
 {
     wipe = wiping;
-    run_on_own_stack();
+    run_on_own_stack(call_and_wipe);
     if ((answer >> 32 == 0) != accepted)
         fail_call(&in, "stack", "check %" PRIu64, answer >> 32);
     return secrets_found();
@@ -212,12 +219,12 @@ static void note_depth(void)
 
 static size_t least_left = MAX_SECRETS;
 
-/* Every call that takes a key must leave some of it, or the search is no test of the wipe. */
-static void try_call(int accepted)
+/* A call that has used a key or words must leave some of them, or the search is no test of the wipe. */
+static void try_call(int accepted, int leaves)
 {
     size_t left = words_left(0, accepted);
     note_depth();
-    if (call_has_key(in.kind)) {
+    if (leaves) {
         if (left == 0)
             fail_call(&in, "stack", "no secret is found without the wipe: this test cannot fail");
         least_left = left < least_left ? left : least_left;
@@ -227,6 +234,51 @@ static void try_call(int accepted)
         fail_call(&in, "stack", "%zu secret words are found after the wipe", left);
 }
 
+/* Prepares a key in a buffer of its own, and seals a block. The buffer is wiped last of all: nothing reads it any more, so that
+ * a compiler may leave out stores that are not volatile. */
+static size_t buffer_at;
+static int wipe_buffer;
+
+static void prepare_and_wipe(void)
+{
+    uint8_t words[PLANBOOK_MAX_EXPANDED_BYTES];
+    size_t len = planbook_expanded_length(in.secret_len);
+    answer = planbook_expand_key(secret, in.secret_len, in.way, words, len);
+    if (planbook_check(answer) == PLANBOOK_ACCEPTED)
+        answer = planbook_encrypt_block(words, len, in.way, input, REFERENCE_BLOCK, output, REFERENCE_BLOCK);
+    buffer_at = (size_t)((uintptr_t)words - (uintptr_t)stack);
+    if (wipe)
+        planbook_wipe_stack();
+    if (wipe_buffer)
+        planbook_wipe(words, sizeof words);
+}
+
+/* How many of the words stand in the buffer afterwards. */
+static size_t left_in_buffer(int wiping, int wiping_buffer)
+{
+    wipe = wiping;
+    wipe_buffer = wiping_buffer;
+    run_on_own_stack(prepare_and_wipe);
+    if (answer != 1)
+        fail_call(&in, "wipe", "check %" PRIu64, answer >> 32);
+    return secrets_between(buffer_at, buffer_at + PLANBOOK_MAX_EXPANDED_BYTES);
+}
+
+static void try_wipe(uint64_t key_len)
+{
+    size_t left;
+    make_call(CALL_EXPAND_KEY, PLANBOOK_WAY_WORD_TABLES, key_len);
+    if (left_in_buffer(0, 0) < planbook_expanded_length(key_len) / 4)
+        fail_call(&in, "wipe", "the words are not found without the wipe: this test cannot fail");
+    left = left_in_buffer(0, 1);
+    if (left != 0)
+        fail_call(&in, "wipe", "%zu secret words are found after planbook_wipe", left);
+    left_in_buffer(1, 1);
+    left = secrets_found();
+    if (left != 0)
+        fail_call(&in, "wipe", "%zu secret words are found after both wipes", left);
+}
+
 int main(int argc, char **argv)
 {
     start_test("stack", argc, argv);
@@ -234,11 +286,19 @@ int main(int argc, char **argv)
         for (uint64_t way = 1; way <= WAYS; way++)
             for (uint64_t key_len = 16; key_len <= 32; key_len += 8) {
                 make_call((call_kind)kind, way, key_len);
-                try_call(1);
-                in.out_len--; /* check 4, which is made when the key is expanded already, and for a page last of all */
-                try_call(0);
+                try_call(1, call_has_secret((call_kind)kind));
+                in.out_len--; /* check 4, for a page the last of all */
+                try_call(0, 0);
+                if (kind == CALL_DECRYPT_BOOK) { /* check 11, of records that were decrypted */
+                    in.out_len++;
+                    input[in.input_len - 1] ^= 1;
+                    try_call(0, 1);
+                }
             }
-    printf("stack: at most %zu bytes used by a call; at least %zu secret words left where there is a key, none after the wipe\n",
+    for (uint64_t key_len = 16; key_len <= 32; key_len += 8)
+        try_wipe(key_len);
+    printf("stack: at most %zu bytes used by a call; at least %zu secret words left where a key or words were used, none after "
+           "the wipe; none in a buffer of words after planbook_wipe\n",
            deepest, least_left);
     printf("stack: passed\n");
     return 0;

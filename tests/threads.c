@@ -1,21 +1,24 @@
 /*
  * Many threads at once: every call by every way, from inputs that all threads
- * share into an output of each thread's own, held against what a single thread
- * got before. Built with the thread sanitizer it watches the code in C only,
- * since the library is not built with it.
+ * share into an output of each thread's own, held against the reference. Most
+ * calls with words are lent the same ones, in memory that cannot be written.
+ * Built with the thread sanitizer it watches the code in C only, since the
+ * library is not built with it.
  *
  *   threads [SEED [SHORTER]]
  */
-#define _POSIX_C_SOURCE 200112L
+#define _DEFAULT_SOURCE
 
 #include "compare.h"
 #include "library.h"
+#include "planbook.h"
 
 #include <inttypes.h>
 #include <pthread.h>
 #include <stdio.h>
 #include <stdlib.h>
 #include <string.h>
+#include <sys/mman.h>
 
 enum {
     THREADS = 8,
@@ -26,7 +29,7 @@ enum {
     PATTERN = 165
 };
 
-/* A call, and what a single thread got from it. */
+/* A call, and what must come of it. */
 typedef struct {
     test_case c;
     int repeats;
@@ -46,41 +49,79 @@ static known_case cases[ALL_CASES];
 static worker workers[THREADS];
 static pthread_barrier_t start;
 
-/* Puts the longest book or note in a case's place. */
+/* The words that all threads use, of a key of each length, expanded by the library. */
+enum { SHARED_ROOM = 1024 };
+static uint8_t *shared[3];
+
+static void share_words(void)
+{
+    uint8_t key[32];
+    uint8_t *room = mmap(NULL, 3 * SHARED_ROOM, PROT_READ | PROT_WRITE, MAP_PRIVATE | MAP_ANONYMOUS, -1, 0);
+    if (room == MAP_FAILED)
+        fail("no memory for words");
+    random_fill(&random_source, key, sizeof key);
+    for (size_t i = 0; i < 3; i++) {
+        size_t key_len = 16 + 8 * i;
+        shared[i] = room + SHARED_ROOM * i;
+        if (planbook_expand_key(key, key_len, 1 + i, shared[i], planbook_expanded_length(key_len)) >> 32 != 0)
+            fail("a key of %zu bytes is not expanded", key_len);
+    }
+    if (mprotect(room, 3 * SHARED_ROOM, PROT_READ) != 0)
+        fail("mprotect refuses");
+}
+
+/* Seals the clear book of a case that opens one. */
+static void seal_input(test_case *c)
+{
+    static uint8_t clear[MAX_INPUT];
+    reference_words words;
+    memcpy(clear, c->input, c->in.input_len);
+    reference_load_words(&words, c->in.secret, c->in.secret_len);
+    reference_encrypt_bodies(&words, clear, c->in.input_len, c->input);
+    c->input[0] = SEALED_BOOK;
+}
+
+/* Puts the longest book or note in a case's place; a book is clear. */
 static void make_longest(test_case *c)
 {
     static const book_shape shape = {5, {1021, 1021, 1021, 1021, 4}};
-    static uint8_t clear[MAX_INPUT];
-    call_input in = c->in;
-    if (in.kind == CALL_CRYPT_NOTE) {
+    if (c->in.kind == CALL_CRYPT_NOTE) {
         c->in.input_len = c->in.out_len = MAX_NOTE_LENGTH;
         random_fill(&random_source, c->input, MAX_NOTE_LENGTH);
         return;
     }
-    in.input_len = make_clear_book(&random_source, &shape, c->input);
-    in.sheet %= shape.sheets;
-    in.out_len = reference_output_length(&in);
-    c->in = in;
-    if (in.kind != CALL_DECRYPT_BOOK)
-        return;
-    memcpy(clear, c->input, in.input_len);
-    in.kind = CALL_ENCRYPT_BOOK;
-    in.input = clear;
-    library_call(&in, c->input);
+    c->in.input_len = make_clear_book(&random_source, &shape, c->input);
+    c->in.sheet %= shape.sheets;
+    c->in.out_len = reference_output_length(&c->in);
+}
+
+/* An accepted case, with the words that are shared where it has words. */
+static void make_shared_case(test_case *c, call_kind kind, int number, int longest)
+{
+    size_t i = (size_t)number % 3;
+    int opening = kind == CALL_DECRYPT_BOOK;
+    make_case(&random_source, opening ? CALL_ENCRYPT_BOOK : kind, 0, c);
+    c->in.kind = kind;
+    if (longest)
+        make_longest(c);
+    if (call_has_words(kind)) {
+        c->in.secret = shared[i];
+        c->in.secret_len = planbook_expanded_length(16 + 8 * i);
+    }
+    if (opening)
+        seal_input(c);
 }
 
 static void know_case(known_case *k, call_kind kind, uint64_t way, int number)
 {
-    if (number % 3 == 2)
+    k->repeats = number == 0 && call_is_long(kind) ? 1 : REPEATS;
+    if (number % 4 == 3)
         make_changed_case(&random_source, kind, &k->c);
     else
-        make_case(&random_source, kind, 0, &k->c);
+        make_shared_case(&k->c, kind, number, k->repeats == 1);
     k->c.in.way = way;
-    k->repeats = number == 0 && call_is_long(kind) ? 1 : REPEATS;
-    if (k->repeats == 1)
-        make_longest(&k->c);
     memset(k->output, PATTERN, k->c.in.out_len);
-    k->answer = library_call(&k->c.in, k->output);
+    k->answer = reference_call(&k->c.in, k->output).answer;
 }
 
 /* Returns how many of the cases are refused. */
@@ -138,13 +179,15 @@ int main(int argc, char **argv)
 {
     unsigned refused;
     start_test("threads", argc, argv);
+    share_words();
     refused = know_cases();
     run_workers();
     for (size_t t = 0; t < THREADS; t++)
         if (workers[t].wrong != NULL)
-            fail_call(&workers[t].wrong->c.in, "threads", "another answer or output than a single thread got");
-    printf("threads: %d threads, each %" PRIu64 " times through %d accepted and %u refused calls by %d ways\n", THREADS,
-           scaled(ROUNDS), ALL_CASES - (int)refused, refused, WAYS);
+            fail_call(&workers[t].wrong->c.in, "threads", "another answer or output than the reference has");
+    printf("threads: %d threads, each %" PRIu64 " times through %d accepted and %u refused calls by %d ways, with words that all "
+           "share\n",
+           THREADS, scaled(ROUNDS), ALL_CASES - (int)refused, refused, WAYS);
     printf("threads: passed\n");
     return 0;
 }

@@ -1,4 +1,12 @@
 #include "vectors.h"
+#include "reference_clefia.h"
+
+size_t printed_words(const paper_vector *v, uint8_t bytes[224])
+{
+    for (size_t i = 0; i < v->words; i++)
+        reference_store_word(bytes + 4 * i, v->expanded[i]);
+    return 4 * v->words;
+}
 
 const paper_vector paper_vectors[KEY_LENGTHS] = {
     {

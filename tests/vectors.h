@@ -24,6 +24,9 @@ typedef struct {
 
 extern const paper_vector paper_vectors[KEY_LENGTHS];
 
+/* The printed words as bytes; answers how many bytes they are. */
+size_t printed_words(const paper_vector *v, uint8_t bytes[224]);
+
 enum { NOTE_VECTORS = 2, MAX_VECTOR_NOTE = 64 };
 
 /*

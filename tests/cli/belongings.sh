@@ -32,13 +32,35 @@ test_install() {
     cd "$work" || exit 2
     unhex 000102030405060708090a0b0c0d0e0f >key
     chmod 600 key
+    unhex 01000001 0000002900020000$start $record 000000290000000803000103e7000000 >two
     "$planbook" seal --key key clear s
-    ./seal_book <clear >t 2>err
-    judge "the example" 0 "records sealed: 1" $?
+    "$planbook" seal --key key two s2
+    ./seal_book clear t two t2 >out 2>err
+    judge "the example" 0 "" $?
+    printf '%s\n' "t: records sealed: 1" "t2: records sealed: 2" >wanted
+    same out wanted
     same t s
-    ./seal_book <sealed128 >t 2>err
-    judge "the example with a sealed book" 1 "refused, check 6:" $?
-    rm -f s t key
+    same t2 s2
+    cp precious t
+    ./seal_book clear t 2>err
+    judge "the example, and a file that exists" 2 "t: File exists" $?
+    same t precious
+    rm -f t t2
+    ./seal_book clear t sealed128 t2 >out 2>err
+    judge "the example with a sealed book" 1 "sealed128: refused, check 6:" $?
+    same t s
+    holds "the example makes nothing of a sealed book" [ ! -e t2 ]
+    for words in "" clear "clear t2 two"; do
+        ./seal_book $words 2>err
+        judge "the example with the words '$words'" 2 "usage: seal_book CLEAR SEALED [CLEAR SEALED]..." $?
+    done
+    ./seal_book missing t2 2>err
+    judge "the example without a book" 2 "missing: No such file or directory" $?
+    ./seal_book /dev/zero t2 2>err
+    judge "the example with a book that is too long" 1 "/dev/zero: refused, check 5:" $?
+    ./seal_book clear missing/t2 2>err
+    judge "the example without a folder" 2 "missing/t2: No such file or directory" $?
+    rm -f s s2 t two key
 }
 
 # completes WORDS..: what bash offers for the last of the words.
@@ -86,7 +108,7 @@ test_papers() {
     done
     if [ -f README.md ]; then
         # the program as the README prints it, between its first line and the closing fence
-        sed -n '/^\/\* Seals the clear book on standard input/,/^```/p' README.md | sed '/^```/d' >"$work/readme.c"
+        sed -n '/^\/\* Seals clear books, each into the file/,/^```/p' README.md | sed '/^```/d' >"$work/readme.c"
         same "$work/readme.c" examples/seal_book.c
     fi
     cd "$work" || exit 2
@@ -95,6 +117,7 @@ test_papers() {
 test_demo() {
     cd "$here" || exit 2
     holds "the demo" make -s demo CLI_DIR="$built" >"$work/demo.txt" 2>&1
+    holds "the demo's program seals two books" grep -q "Its two books are those of the command" "$work/demo.txt"
     holds "the demo opens its book" grep -q "The opened book is the clear one" "$work/demo.txt"
     holds "the demo goes from a plan to a plan" grep -q "The plan is the same, byte for byte" "$work/demo.txt"
     holds "the demo prints a page" grep -qx "        58          7 1   4   1" "$work/demo.txt"

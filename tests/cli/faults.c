@@ -17,8 +17,12 @@
  *   digits        random bytes are 16 times the digit 7, and then as with count
  *   mark          writing leaves 12 KiB of a5 a4 .. 96 on the stack, again and again
  *   early-mark    so does reading
- *   scan          at the very end, the memory is looked through for the bytes that SCAN names in hexadecimal
+ *   malloc-mark:N so does asking for N bytes of memory
+ *   scan          at the very end, the memory is looked through for the bytes that SCAN names in hexadecimal, or for several such
+ *                 with commas between them
  *   early-scan    the same while the file is written
+ *   malloc-scan:N the same when N bytes of memory are asked for
+ *   no-memory:N   there are no N bytes of memory
  */
 #define _GNU_SOURCE
 #include <dlfcn.h>
@@ -84,6 +88,24 @@ ssize_t read(int fd, void *bytes, size_t len)
     if (fault("early-mark") != NULL)
         leave_mark();
     return real(fd, bytes, len);
+}
+
+static int asked_for(const char *kind, size_t len)
+{
+    const char *wanted = fault(kind);
+    return wanted != NULL && (size_t)atoi(wanted) == len;
+}
+
+void *malloc(size_t len)
+{
+    static void *(*real)(size_t);
+    if (real == NULL)
+        *(void **)&real = dlsym(RTLD_NEXT, "malloc");
+    if (asked_for("malloc-scan:", len))
+        scan();
+    if (asked_for("malloc-mark:", len))
+        leave_mark();
+    return asked_for("no-memory:", len) ? NULL : real(len);
 }
 
 static void make_empty(const char *name)
@@ -176,20 +198,29 @@ static int is_at(const unsigned char *at, const char *hex, size_t len)
     return 1;
 }
 
+/* How often the bytes stand there that are named up to the comma. */
+static size_t count_in(const unsigned char *from, const unsigned char *to, const char *hex)
+{
+    size_t len = strcspn(hex, ",") / 2, found = 0;
+    for (const unsigned char *at = from; at + len <= to; at++)
+        found += (size_t)is_at(at, hex, len);
+    return found;
+}
+
 /* Says whether something was found. */
 static void scan_here(void)
 {
     const char *hex = getenv("SCAN");
     if (hex == NULL)
         return;
-    size_t len = strlen(hex) / 2, scanned = 0, found = 0;
+    size_t scanned = 0, found = 0;
     char line[512], access[8];
     void *from, *to;
     FILE *maps = fopen("/proc/self/maps", "r");
     while (maps != NULL && fgets(line, sizeof line, maps) != NULL)
         if (sscanf(line, "%p-%p %7s", &from, &to, access) == 3 && strncmp(access, "rw", 2) == 0) {
-            for (const unsigned char *at = from; at + len <= (const unsigned char *)to; at++)
-                found += (size_t)is_at(at, hex, len);
+            for (const char *one = hex; *one != '\0'; one += strcspn(one, ","), one += *one == ',')
+                found += count_in(from, to, one);
             scanned += (size_t)((char *)to - (char *)from);
         }
     fprintf(stderr, scanned < 65536 ? "nothing scanned\n" : found > 0 ? "left behind %zu times\n" : "nothing left behind\n", found);

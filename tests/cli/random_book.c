@@ -161,11 +161,14 @@ static void write_book(void)
 static void write_sealed_book(void)
 {
     static const size_t lengths[] = {16, 24, 32};
-    unsigned char key[32];
+    unsigned char key[32], words[REFERENCE_MAX_WORDS_LENGTH];
+    reference_words expanded;
     size_t len = lengths[below(3)];
     for (size_t i = 0; i < len; i++)
         key[i] = (unsigned char)draw();
-    call_input call = {CALL_ENCRYPT_BOOK, key, len, 1, clear, book_len, book_len};
+    reference_expand_key(&expanded, key, len);
+    size_t words_len = 4 * reference_store_words(words, &expanded);
+    call_input call = {CALL_ENCRYPT_BOOK, words, words_len, 1, clear, book_len, book_len};
     if (reference_call(&call, sealed).failing != 0)
         exit(1);
     write_file("key", key, len);

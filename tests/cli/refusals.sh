@@ -145,6 +145,25 @@ test_keys() {
             expect_exactly 1 "planbook: --way $way: the ways are 1, 2 and 3 [check 2]" $line x --way $way
         done
     done
+    # of several faults one is told: that of the key before that of the way, and both before those of the book
+    head -c 15 /dev/zero >short
+    unhex 03000000 >damaged
+    for line in "seal --key short --way 4 clear" "seal --key short --way 4 damaged" "open --key short --way 4 sealed128" \
+        "open --key short --way 4 damaged" "seal --key short plan.csv" "show --key short damaged" "seal --key short damaged" "open --key short damaged"; do
+        expect_exactly 1 "planbook: the key in short is 15 bytes long, not 16, 24 or 32 [check 1]" $line x
+        holds "nothing is made under a key of 15 bytes" [ ! -e x ]
+    done
+    for line in "seal --key key128 --way 4 damaged" "open --key-hex hex192 --way 4 damaged" "seal --key key256 --way 4 plan.csv"; do
+        expect_exactly 1 "planbook: --way 4: the ways are 1, 2 and 3 [check 2]" $line x
+        holds "nothing is made by a fourth way" [ ! -e x ]
+    done
+    expect_nothing x 2 "--way takes a number: two" open --key missing --way two damaged x
+    expect_nothing x 2 "cannot open missing: No such file" open --key missing --way 4 damaged x
+    # but a plan is packed, and a plot found, before the key is asked for
+    printf 'trial,entry,replicate,row,column\n41,7,5,12,3\n' >bad.csv
+    expect_nothing x 1 "bad.csv, line 2: replicate 5, but trial 41 has 4" seal --key missing bad.csv x
+    expect 1 "damaged is no sealed plan book" find --key missing damaged 41 0
+    expect 1 "sealed128 has no trial 42" find --key missing sealed128 42 0
     expect_exactly 1 "planbook: sealed128 $not_opened [check 11]" open --key key256 sealed128 x
     holds "nothing is made under a wrong key" [ ! -e x ]
     # a key that others may read

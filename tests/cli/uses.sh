@@ -86,10 +86,12 @@ END
     mode_is 600 shown
     expect 0 "" show sealed192
     same out head
-    expect 0 "" show --key key192 sealed192
-    same out table
-    expect 0 "" show --force --key-hex hex192 sealed192 shown
-    same shown table
+    for bits in 128 192 256; do
+        expect 0 "" show --key key$bits sealed$bits
+        same out table
+        expect 0 "" show --force --key-hex hex$bits sealed$bits shown
+        same shown table
+    done
     echo "41 0 $cipher256" >label
     cp sealed256 in
     expect 0 "" labels
@@ -121,8 +123,10 @@ test_json() {
 END
     expect 0 "" show --json clear
     same out wanted
-    expect 0 "" show --json --key key128 sealed128
-    same out wanted
+    for bits in 128 192 256; do
+        expect 0 "" show --json --key key$bits sealed$bits
+        same out wanted
+    done
     printf '[\n {"trial": 41, "place": 0, "label": "%s"}\n]\n' $cipher128 >wanted
     expect 0 "" labels --json sealed128 x
     same x wanted
@@ -148,6 +152,12 @@ test_find() {
     { cat head; echo '        41     0          7         2    12      3'; } >wanted
     expect 0 "" find --key key128 s $cipher128
     same out wanted
+    for bits in 128 192 256; do
+        eval "expect 0 '' find --key key$bits sealed$bits \$cipher$bits"
+        same out wanted
+        expect 0 "" find --key-hex hex$bits sealed$bits 41 0
+        same out wanted
+    done
     { cat head; echo '        41     1          8         3     1    999'; } >wanted
     expect 0 "" find --key key128 s "$("$planbook" labels s | sed -n '2s/.* //p' | tr a-f A-F)"
     same out wanted
@@ -266,8 +276,10 @@ random_book() {
     "$planbook" unpack --trials s.csv book p.csv && cmp p.csv plan.csv && cmp s.csv trials.csv &&
         "$planbook" pack --trials s.csv p.csv again 2>/dev/null && cmp again book &&
         "$planbook" pack --trials mixed-trials.csv mixed.csv mixed 2>/dev/null && cmp mixed book &&
-        "$planbook" seal --key key --way 1 book s && cmp s sealed &&
-        "$planbook" open --key key sealed opened && cmp opened book &&
+        for way in 1 2 3; do
+            "$planbook" seal --key key --way $way --force book s && cmp s sealed &&
+                "$planbook" open --key key --way $way --force sealed opened && cmp opened book || return 1
+        done &&
         "$planbook" show book >out && cmp out show.txt &&
         "$planbook" show --json book >out && cmp out show.json &&
         "$planbook" show sealed >out && cmp out head.txt &&

@@ -69,11 +69,11 @@ static void change_case(recipe *r, test_case *c)
     case 0: in->way = take(r, 8); break;
     case 1: in->out_len = changed_length(r, in->out_len, MAX_INPUT); break;
     case 2: in->input_len = changed_length(r, in->input_len, MAX_INPUT); break;
-    case 3: in->key_len = call_has_key(in->kind) ? changed_length(r, in->key_len, MAX_KEY) : take(r, 8); break;
+    case 3: in->secret_len = call_has_secret(in->kind) ? changed_length(r, in->secret_len, MAX_SECRET) : take(r, 8); break;
     case 4: in->out_len = reference_output_length(in); break;
     case 5:
-        place = take(r, 1);
-        change_byte(c->key, MAX_KEY, place, take(r, 1));
+        place = take(r, 1); /* words have at most 224 bytes */
+        change_byte(c->secret, MAX_SECRET, place, take(r, 1));
         break;
     case 6:
         place = take(r, 1);

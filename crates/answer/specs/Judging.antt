@@ -1,6 +1,6 @@
 -- Laws of answers: checks that are made in groups, one after the other, answer as they do in one list.
 use Prim.Native.Nat.{ℕ}
-use mathlib.Core.Path.{_≡_, refl, _∙_}
+use mathlib.Core.Path.{_≡_, refl, sym, _∙_}
 use mathlib.Core.Bool.{true, false}
 use mathlib.Core.List.{List, [], _∷_, _++_}
 use native.Mathlib.Omega.{arith}
@@ -47,3 +47,11 @@ given-accepted out exit e h = rw e (record { case = refl; output = h })
 -- The outcome by another name.
 pub given-same : {o o′ : Outcome} {out exit : List ℕ} {r : Answer} → o′ ≡ o → Given o out r exit → Given o′ out r exit
 given-same e g = rw e g
+
+-- The first group of a call's checks, made by a part of the call that answered r: it refuses the call, or leaves the rest to come.
+pub refused-by : (cs ds : List Check) (n : ℕ) (o : Outcome) (out : List ℕ) {r : Answer} {c : ℕ} → r ≡ answerOf (judged cs (accepted n [])) → r ≡ Refused c
+    → Given (judged (cs ++ ds) o) out r out
+refused-by cs ds n o out e h = rw h (given-refused out (stopped-first cs ds n o (sym h ∙ e)))
+
+pub passed-by : {cs : List Check} (ds : List Check) (o : Outcome) {out exit : List ℕ} {r : Answer} → AllPass cs → Given (judged ds o) out r exit → Given (judged (cs ++ ds) o) out r exit
+passed-by {cs} ds o p g = given-same (passed-first cs ds o p) g

@@ -1,4 +1,6 @@
-// Checks 1 to 4, each where its call makes it: of a key and a way, of the words that a call writes, of a block under expanded words.
+// Checks 1 to 4 and 14, each where its call makes it: of a key or words and a way, of the words that a call writes, of a block under expanded words.
+pub mod words;
+
 ghost use mathlib.Core.Path.{_≡_};
 ghost use mathlib.Core.Bool.{_||_};
 ghost use mathlib.Core.List.{[], _∷_};
@@ -38,7 +40,7 @@ pub fn write_words(src: &[u32], out: &mut [u8]) -> Answer
     Answer::Accepted(src.len() as u64)
 }
 
-// Checks 1 and 2, with which every call that takes a key begins. The count is that of the expanded key's words.
+// Checks 1 and 2, with which the call that takes a key begins. The count is that of the expanded key's words.
 pub fn check_key(key: &[u8], way: u64) -> Answer
     ensures { λ r. ⌜ r ≡ keyAnswer (now (key .entry)) way ⌝ }
 {

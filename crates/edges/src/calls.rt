@@ -7,6 +7,7 @@ use planbook::planbook_encrypt_block;
 use planbook::planbook_encrypt_book;
 use planbook::planbook_expand_key;
 use planbook::planbook_page;
+use samples::commands;
 use samples::outputs::begin;
 use samples::outputs::end;
 use samples::outputs::fill;
@@ -19,6 +20,7 @@ fn call(
     number: usize,
     key: &[u8],
     length: u64,
+    words: &[u8],
     way: u64,
     counter: &[u8],
     sheet: u64,
@@ -28,12 +30,12 @@ fn call(
     match number {
         1 => planbook_constants(length, output),
         2 => planbook_expand_key(key, way, output),
-        3 => planbook_encrypt_block(key, way, input, output),
-        4 => planbook_decrypt_block(key, way, input, output),
-        6 => planbook_decrypt_book(key, way, input, output),
-        23 => planbook_crypt_note(key, way, counter, input, output),
+        3 => planbook_encrypt_block(words, way, input, output),
+        4 => planbook_decrypt_block(words, way, input, output),
+        6 => planbook_decrypt_book(words, way, input, output),
+        23 => planbook_crypt_note(words, way, counter, input, output),
         25 => planbook_page(input, sheet, output),
-        _ => planbook_encrypt_book(key, way, input, output),
+        _ => planbook_encrypt_book(words, way, input, output),
     }
 }
 
@@ -42,6 +44,7 @@ fn report(
     script: &[u8],
     state: State,
     key: &[u8],
+    words: &[u8],
     counter: &[u8],
     input: &[u8],
     output: &mut [u8],
@@ -52,6 +55,7 @@ fn report(
         command.number,
         key,
         state.key as u64,
+        words,
         state.way as u64,
         counter,
         state.sheet as u64,
@@ -75,12 +79,35 @@ fn is_call(number: usize) -> bool {
     number <= 7
 }
 
-// A call with as many bytes of the key, the counter block, the book and the output as the state says.
+// Command 27, which expands the key into as many bytes of words as the state says. No line says what came of it: the calls that are lent the words show it.
+fn prepare(command: Command, state: State, key: &[u8], words: &mut [u8]) {
+    if command.number == 27 {
+        let k = within(state.key, key);
+        let w = within(state.words, words);
+        planbook_expand_key(&key[..k], state.way as u64, &mut words[..w]);
+    }
+}
+
+// The commands that make what is lent beside the input: the words and the counter block.
+pub fn make_ready(
+    command: Command,
+    state: State,
+    key: &[u8],
+    words: &mut [u8],
+    counter: &mut [u8],
+) {
+    prepare(command, state, key, words);
+    commands::damage(command, words);
+    commands::make_counter(command, counter);
+}
+
+// A call with as many bytes of the key, the words, the counter block, the book and the output as the state says.
 pub fn run_call(
     command: Command,
     script: &[u8],
     state: State,
     key: &[u8],
+    words: &[u8],
     counter: &[u8],
     book: &[u8],
     output: &mut [u8],
@@ -89,6 +116,7 @@ pub fn run_call(
         return;
     }
     let k = within(state.key, key);
+    let w = within(state.words, words);
     let c = within(state.counter, counter);
     let b = within(state.length, book);
     let n = within(state.size, output);
@@ -97,6 +125,7 @@ pub fn run_call(
         script,
         state,
         &key[..k],
+        &words[..w],
         &counter[..c],
         &book[..b],
         &mut output[..n],

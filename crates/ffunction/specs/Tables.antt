@@ -1,7 +1,9 @@
 -- The tables that F0 and F1 may be given, by the rules, and F0 and F1 by number.
-use Prim.Native.Nat.{ℕ, zero, suc, _+_, _-_, _/_, _%_}
+use Prim.Native.Nat.{ℕ, zero, suc, _+_, _-_, _/_, _%_, _<_}
 use mathlib.Core.Path.{_≡_, refl}
 use mathlib.Core.List.{List, [], _∷_}
+use native.Mathlib.Omega.{arith}
+use lib.Dec.{lit<}
 use lib.ListN.{length}
 use Rattle.clefia_spec.specs.Words.{_⊕_, fromDigits, toDigits}
 use Rattle.clefia_spec.specs.Field.{product}
@@ -48,3 +50,15 @@ wordTables = values wordTable 0 8
 pub record Lent (ws bs : List (List ℕ)) : Type 0 where
   pub words : length ws ≡ 8 → ws ≡ wordTables
   pub bytes : length bs ≡ 2 → bs ≡ byteTables
+
+never : (n : ℕ) {A : Type 0} → 0 < n → 0 ≡ n → A
+never n h e = let z : ⊥ = omega (arith, h, e) in absurd z
+
+pub lent-words : {ws : List (List ℕ)} → ws ≡ wordTables → Lent ws []
+lent-words h = record { words = λ _. h; bytes = never 2 (lit< tt) }
+
+pub lent-bytes : {bs : List (List ℕ)} → bs ≡ byteTables → Lent [] bs
+lent-bytes h = record { words = never 8 (lit< tt); bytes = λ _. h }
+
+pub lent-none : Lent [] []
+lent-none = record { words = never 8 (lit< tt); bytes = never 2 (lit< tt) }

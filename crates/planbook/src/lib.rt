@@ -17,49 +17,59 @@ pub extern "C" fn planbook_constants(key_length: u64, out: &mut [u8]) -> u64
 pub extern "C" fn planbook_expand_key(key: &[u8], way: u64, out: &mut [u8]) -> u64
     ensures { λ r. ⌜ Answers (expandKeyCall (now (key .entry)) way (now (out .entry))) (now (out .entry)) r (now (out .exit)) ⌝ }
 {
-    answer::number(calls::keyed_call(Task::ExpandKey, key, way, &[], &[], out))
+    answer::number(expand_key_call::expand_key(key, way, out))
 }
 
 #[no_mangle]
-pub extern "C" fn planbook_encrypt_block(key: &[u8], way: u64, block: &[u8], out: &mut [u8]) -> u64
-    ensures { λ r. ⌜ Answers (encryptBlockCall (now (key .entry)) way (now (block .entry)) (now (out .entry))) (now (out .entry)) r (now (out .exit)) ⌝ }
+pub extern "C" fn planbook_encrypt_block(
+    words: &[u8],
+    way: u64,
+    block: &[u8],
+    out: &mut [u8],
+) -> u64
+    ensures { λ r. ⌜ Answers (encryptBlockCall (now (words .entry)) way (now (block .entry)) (now (out .entry))) (now (out .entry)) r (now (out .exit)) ⌝ }
 {
-    answer::number(calls::keyed_call(Task::EncryptBlock, key, way, &[], block, out))
+    answer::number(calls::call(Task::EncryptBlock, words, way, &[], block, out))
 }
 
 #[no_mangle]
-pub extern "C" fn planbook_decrypt_block(key: &[u8], way: u64, block: &[u8], out: &mut [u8]) -> u64
-    ensures { λ r. ⌜ Answers (decryptBlockCall (now (key .entry)) way (now (block .entry)) (now (out .entry))) (now (out .entry)) r (now (out .exit)) ⌝ }
+pub extern "C" fn planbook_decrypt_block(
+    words: &[u8],
+    way: u64,
+    block: &[u8],
+    out: &mut [u8],
+) -> u64
+    ensures { λ r. ⌜ Answers (decryptBlockCall (now (words .entry)) way (now (block .entry)) (now (out .entry))) (now (out .entry)) r (now (out .exit)) ⌝ }
 {
-    answer::number(calls::keyed_call(Task::DecryptBlock, key, way, &[], block, out))
+    answer::number(calls::call(Task::DecryptBlock, words, way, &[], block, out))
 }
 
 #[no_mangle]
-pub extern "C" fn planbook_encrypt_book(key: &[u8], way: u64, book: &[u8], out: &mut [u8]) -> u64
-    ensures { λ r. ⌜ Answers (encryptBookCall (now (key .entry)) way (now (book .entry)) (now (out .entry))) (now (out .entry)) r (now (out .exit)) ⌝ }
+pub extern "C" fn planbook_encrypt_book(words: &[u8], way: u64, book: &[u8], out: &mut [u8]) -> u64
+    ensures { λ r. ⌜ Answers (encryptBookCall (now (words .entry)) way (now (book .entry)) (now (out .entry))) (now (out .entry)) r (now (out .exit)) ⌝ }
 {
-    answer::number(calls::keyed_call(Task::EncryptBook, key, way, &[], book, out))
+    answer::number(calls::call(Task::EncryptBook, words, way, &[], book, out))
 }
 
 #[no_mangle]
-pub extern "C" fn planbook_decrypt_book(key: &[u8], way: u64, book: &[u8], out: &mut [u8]) -> u64
-    ensures { λ r. ⌜ Answers (decryptBookCall (now (key .entry)) way (now (book .entry)) (now (out .entry))) (now (out .entry)) r (now (out .exit)) ⌝ }
+pub extern "C" fn planbook_decrypt_book(words: &[u8], way: u64, book: &[u8], out: &mut [u8]) -> u64
+    ensures { λ r. ⌜ Answers (decryptBookCall (now (words .entry)) way (now (book .entry)) (now (out .entry))) (now (out .entry)) r (now (out .exit)) ⌝ }
 {
-    answer::number(calls::keyed_call(Task::DecryptBook, key, way, &[], book, out))
+    answer::number(calls::call(Task::DecryptBook, words, way, &[], book, out))
 }
 
 // One call for both directions.
 #[no_mangle]
 pub extern "C" fn planbook_crypt_note(
-    key: &[u8],
+    words: &[u8],
     way: u64,
     counter: &[u8],
     note: &[u8],
     out: &mut [u8],
 ) -> u64
-    ensures { λ r. ⌜ Answers (cryptNoteCall (now (key .entry)) way (now (counter .entry)) (now (note .entry)) (now (out .entry))) (now (out .entry)) r (now (out .exit)) ⌝ }
+    ensures { λ r. ⌜ Answers (cryptNoteCall (now (words .entry)) way (now (counter .entry)) (now (note .entry)) (now (out .entry))) (now (out .entry)) r (now (out .exit)) ⌝ }
 {
-    answer::number(calls::keyed_call(Task::CryptNote, key, way, counter, note, out))
+    answer::number(calls::call(Task::CryptNote, words, way, counter, note, out))
 }
 
 #[no_mangle]

@@ -1,5 +1,5 @@
--- Books encrypted and decrypted by any block cipher: each call takes the other back, and two books encrypted alike are alike. The checks about key and
--- way stay open here, a list cs that is passed; so the theorems serve a key as well as words that no key gives.
+-- Books encrypted and decrypted by any block cipher: each call takes the other back, and two books encrypted alike are alike. The checks about words
+-- and way stay open here, a list cs that is passed.
 use Prim.Native.Nat.{ℕ}
 use mathlib.Core.List.{List}
 use mathlib.Core.Logic.{_↔_}
@@ -87,7 +87,7 @@ module _ (E D : List ℕ → List ℕ) (block : BlockCipher E D) where
   unfolding encryptBookBy
   encrypted-is cs book out a = sym (passed _ _ _ a .sameBytes)
 
-  -- The clear book can be read off the encrypted one, whichever checks about key and way were passed.
+  -- The clear book can be read off the encrypted one, whichever checks about words and way were passed.
   pub encrypted-alike : (cs cs′ : List Check) (a b out out′ : List ℕ) {m n : ℕ} {x y : List ℕ} → Below 256 a → Below 256 b
       → encryptBookBy cs E a out ≡ accepted m x → encryptBookBy cs′ E b out′ ≡ accepted n y → (x ≡ y) ↔ (a ≡ b)
   unfolding encryptBookBy

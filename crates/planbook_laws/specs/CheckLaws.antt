@@ -1,4 +1,4 @@
--- What checks 1 to 4 permit.
+-- What checks 1 to 4 and 14 permit.
 use Prim.Native.Nat.{ℕ}
 use mathlib.Core.Bool.{Bool, true, false, _||_}
 use mathlib.Core.List.{List, [], _∷_}
@@ -10,13 +10,19 @@ use lib.ListN.{length}
 use Rattle.clefia_spec.specs.Words.{KeyLength, sixteen, twentyFour, thirtyTwo}
 use Rattle.planbook_spec.specs.Outcome.{Outcome, refused, Check, judged}
 use Rattle.planbook_spec.specs.OutcomeLaws.{AllPass, none, more, pass-head, pass-append, pass-check, judged-append, judged-pass, judged-false}
-use Rattle.planbook_spec.specs.Checks.{keyCheck, wayCheck, blockCheck, outputCheck, keyAndWay}
+use Rattle.planbook_spec.specs.Checks.{keyCheck, wayCheck, blockCheck, outputCheck, wordsCheck, wordsAndWay}
 
 -- The three ways.
 pub data Way : ℕ → Type 0 where
   one : Way 1
   two : Way 2
   three : Way 3
+
+-- The permitted lengths of lent words, in bytes: 40, 48 or 56 words.
+pub data WordsLength : ℕ → Type 0 where
+  forty : WordsLength 160
+  fortyEight : WordsLength 192
+  fiftySix : WordsLength 224
 
 -- One of three tests passed.
 oneOfThree : (P : ℕ → Type 0) (n a b c : ℕ) → P a → P b → P c → eqb n a || eqb n b || eqb n c ≡ true → P n
@@ -43,6 +49,16 @@ key-passes sixteen = more none
 key-passes twentyFour = more none
 key-passes thirtyTwo = more none
 
+pub words-permitted : {n : ℕ} {cs : List Check} → AllPass (wordsCheck n ∷ cs) → WordsLength n
+unfolding wordsCheck
+words-permitted {n} p = oneOfThree WordsLength n 160 192 224 forty fortyEight fiftySix (pass-head p)
+
+pub words-passes : {n : ℕ} → WordsLength n → AllPass (wordsCheck n ∷ [])
+unfolding wordsCheck
+words-passes forty = more none
+words-passes fortyEight = more none
+words-passes fiftySix = more none
+
 pub way-passes : {w : ℕ} → Way w → AllPass (wayCheck w ∷ [])
 unfolding wayCheck
 way-passes one = more none
@@ -65,8 +81,12 @@ pub block-size : (block : List ℕ) {cs : List Check} → AllPass (blockCheck bl
 unfolding blockCheck
 block-size block p = eqb-true _ _ (pass-head p)
 
-pub keyAndWay-passes : (key : List ℕ) {w : ℕ} → KeyLength (length key) → Way w → AllPass (keyAndWay key w)
-keyAndWay-passes key k w = pass-append (key-passes k) (way-passes w)
+pub wordsAndWay-passes : (words : List ℕ) {w : ℕ} → WordsLength (length words) → Way w → AllPass (wordsAndWay words w)
+wordsAndWay-passes words k w = pass-append (words-passes k) (way-passes w)
+
+-- Words with which one call has passed pass with any other, by any permitted way.
+pub words-again : (words : List ℕ) {w : ℕ} {cs : List Check} → AllPass (wordsCheck (length words) ∷ cs) → Way w → AllPass (wordsAndWay words w)
+words-again words p w = wordsAndWay-passes words (words-permitted p) w
 
 -- ---- one of these checks at the head of a list, as code meets it
 

@@ -1,20 +1,24 @@
 -- The three demands, of what the calls answer. A call's contract says that its number and its output are those of the outcome named here, so these
--- theorems hold of the program. Keys, books and blocks are rows of bytes: Below 256.
+-- theorems hold of the program. Keys, words, books and blocks are rows of bytes: Below 256. Demands 2 and 3 are shown under any words of a permitted count, and
+-- then, as corollaries under their old names, under one key: the words lent are those that the call for it has written.
 use Prim.Native.Nat.{ℕ, _*_, _^_}
 use mathlib.Core.List.{List, [], _∷_, _++_}
 use mathlib.Core.Logic.{_↔_}
 use mathlib.Core.Path.{_≡_, ap, _∙_}
+use lib.Dec.{lit<}
 use lib.ListN.{length}
-use Rattle.clefia_spec.specs.Words.{fromDigits, bytesOf, KeyLength, Below}
+use Rattle.clefia_spec.specs.Words.{fromDigits, bytesOf, Below}
 use Rattle.clefia_spec.specs.Constants.{constants}
 use Rattle.clefia_spec.specs.KeySchedule.{expandKey}
-use Rattle.clefia_spec.specs.Block.{encryptUnder, decryptUnder, encrypt, decrypt}
-use Rattle.clefia_laws.specs.BlockLaws.{decrypt-undoes-encrypt, encrypt-undoes-decrypt, decrypt-undoes-encrypt-under, encrypt-undoes-decrypt-under}
+use Rattle.clefia_spec.specs.Block.{encryptUnder, decryptUnder, encrypt}
+use Rattle.clefia_laws.specs.BlockLaws.{decrypt-undoes-encrypt-under, encrypt-undoes-decrypt-under}
+use Rattle.clefia_laws.specs.DigitLaws.{below-numbersOf}
 use Rattle.clefia_laws.specs.RowLaws.{Bytes, Undone}
 use Rattle.planbook_spec.specs.Outcome.{accepted, after, judged}
 use Rattle.planbook_spec.specs.OutcomeLaws.{none, more, pass-tail, pass-append, judged-pass, Passed, passed, Accepted, accepted-is, Judges, judges}
-use Rattle.planbook_spec.specs.Checks.{keyCheck, outputCheck, keyAndWay, constantCount, expandedCount, constantsCall, expandKeyCall, blockChecks, encryptBlockCall, decryptBlockCall}
-use Rattle.planbook_laws.specs.CheckLaws.{Way, key-permitted, block-size, block-passes, output-passes, keyAndWay-passes}
+use Rattle.planbook_spec.specs.Checks.{keyCheck, outputCheck, lentWords, keyAndWay, wordsAndWay, constantCount, expandedCount, constantsCall, expandKeyCall, blockChecks, encryptBlockCall, decryptBlockCall}
+use Rattle.planbook_laws.specs.CheckLaws.{Way, WordsLength, block-size, block-passes, output-passes, wordsAndWay-passes, words-again}
+use Rattle.planbook_laws.specs.UnderKey.{Expanded, same-words, expanded-bytes, lent-expanded}
 use Rattle.planbook_spec.specs.Book.{number, pieces, entriesHold, contents, recordCount, formChecks, eachBody, sheetsHold, recordsCheck, asItIs, decryptBody, recoded, bookChecks, encryptBookBy, decryptBookBy, encryptedBook, decryptedBook, encryptBookCall, decryptBookCall}
 use Rattle.planbook_laws.specs.Undoing.{BlockCipher}
 use Rattle.planbook_laws.specs.BookCipher.{encrypted-decrypts, decrypted-encrypts, encrypted-is, encrypted-alike}
@@ -32,107 +36,133 @@ pub demand1-expandKey : (key : List ℕ) (way : ℕ) (out : List ℕ)
 unfolding expandKeyCall
 demand1-expandKey key way out = judges _ _ _
 
-pub demand1-encryptBlock : (key : List ℕ) (way : ℕ) (block out : List ℕ) → Judges (blockChecks (keyAndWay key way) block out) 1 (encrypt key block) (encryptBlockCall key way block out)
+pub demand1-encryptBlock : (words : List ℕ) (way : ℕ) (block out : List ℕ)
+    → Judges (blockChecks (wordsAndWay words way) block out) 1 (encryptUnder (lentWords words) block) (encryptBlockCall words way block out)
 unfolding encryptBlockCall
-demand1-encryptBlock key way block out = judges _ _ _
+demand1-encryptBlock words way block out = judges _ _ _
 
-pub demand1-decryptBlock : (key : List ℕ) (way : ℕ) (block out : List ℕ) → Judges (blockChecks (keyAndWay key way) block out) 1 (decrypt key block) (decryptBlockCall key way block out)
+pub demand1-decryptBlock : (words : List ℕ) (way : ℕ) (block out : List ℕ)
+    → Judges (blockChecks (wordsAndWay words way) block out) 1 (decryptUnder (lentWords words) block) (decryptBlockCall words way block out)
 unfolding decryptBlockCall
-demand1-decryptBlock key way block out = judges _ _ _
+demand1-decryptBlock words way block out = judges _ _ _
 
-pub demand1-encryptBook : (key : List ℕ) (way : ℕ) (book out : List ℕ)
-    → Judges (bookChecks (keyAndWay key way) 1 asItIs book out) (recordCount (contents book)) (encryptedBook key book) (encryptBookCall key way book out)
+pub demand1-encryptBook : (words : List ℕ) (way : ℕ) (book out : List ℕ)
+    → Judges (bookChecks (wordsAndWay words way) 1 asItIs book out) (recordCount (contents book)) (encryptedBook (encryptUnder (lentWords words)) book) (encryptBookCall words way book out)
 unfolding encryptBookCall encryptBookBy encryptedBook
-demand1-encryptBook key way book out = judges _ _ _
+demand1-encryptBook words way book out = judges _ _ _
 
-pub demand1-decryptBook : (key : List ℕ) (way : ℕ) (book out : List ℕ)
-    → Judges (bookChecks (keyAndWay key way) 2 (decryptBody (decrypt key)) book out) (recordCount (contents book)) (decryptedBook key book) (decryptBookCall key way book out)
+pub demand1-decryptBook : (words : List ℕ) (way : ℕ) (book out : List ℕ)
+    → Judges (bookChecks (wordsAndWay words way) 2 (decryptBody (decryptUnder (lentWords words))) book out) (recordCount (contents book)) (decryptedBook (decryptUnder (lentWords words)) book) (decryptBookCall words way book out)
 unfolding decryptBookCall decryptBookBy decryptedBook
-demand1-decryptBook key way book out = judges _ _ _
+demand1-decryptBook words way book out = judges _ _ _
 
--- ---- the cipher: CLEFIA under any words, and under a key
+-- ---- the cipher: CLEFIA under any words
 
 pub cipherUnder : {w : List ℕ} → Below (2 ^ 32) w → BlockCipher (encryptUnder w) (decryptUnder w)
 cipherUnder h = record { encrypted = decrypt-undoes-encrypt-under h; decrypted = encrypt-undoes-decrypt-under h }
 
-pub cipher : {key : List ℕ} → KeyLength (length key) → Below 256 key → BlockCipher (encrypt key) (decrypt key)
-cipher k h = record { encrypted = decrypt-undoes-encrypt k h; decrypted = encrypt-undoes-decrypt k h }
+-- The words that a call is lent.
+pub cipherLent : {words : List ℕ} → Below 256 words → BlockCipher (encryptUnder (lentWords words)) (decryptUnder (lentWords words))
+unfolding lentWords
+cipherLent h = cipherUnder (below-numbersOf (lit< tt) 4 _ h)
 
--- A key with which a call was accepted has a permitted length.
-pub encryptBook-key : (key : List ℕ) (way : ℕ) (book out : List ℕ) {n : ℕ} {bs : List ℕ} → encryptBookCall key way book out ≡ accepted n bs → KeyLength (length key)
-unfolding encryptBookCall encryptBookBy bookChecks
-encryptBook-key key way book out a = key-permitted (passed _ _ _ a .checks)
-
-pub decryptBook-key : (key : List ℕ) (way : ℕ) (book out : List ℕ) {n : ℕ} {bs : List ℕ} → decryptBookCall key way book out ≡ accepted n bs → KeyLength (length key)
-unfolding decryptBookCall decryptBookBy bookChecks
-decryptBook-key key way book out a = key-permitted (passed _ _ _ a .checks)
-
--- ---- demand 2: under one key, what one call has made the other takes back, by any of the ways each time. (That blocks, keys and chains are those of
+-- ---- demand 2: under the same words, what one call has made the other takes back, by any of the ways each time. (That blocks, keys and chains are those of
 -- CLEFIA and of CBC is in the definitions that the outcomes name.)
 
-module _ (key : List ℕ) (bytes : Below 256 key) (way way′ : ℕ) (permitted : Way way′) where
+module _ (words : List ℕ) (bytes : Below 256 words) (way way′ : ℕ) (permitted : Way way′) where
   -- A sealed book opens to the clear book.
-  pub demand2-decrypts : (book out out′ : List ℕ) {n : ℕ} {encrypted : List ℕ} → Below 256 book → encryptBookCall key way book out ≡ accepted n encrypted
-      → length out′ ≡ length book → decryptBookCall key way′ encrypted out′ ≡ accepted n book
-  unfolding encryptBookCall decryptBookCall
-  demand2-decrypts book out out′ r a e =
-      let k : KeyLength (length key) = encryptBook-key key way book out a in
-      encrypted-decrypts (encrypt key) (decrypt key) (cipher k bytes) (keyAndWay key way) (keyAndWay key way′) book out out′ r a (keyAndWay-passes key k permitted) e
+  pub demand2-decrypts-under : (book out out′ : List ℕ) {n : ℕ} {encrypted : List ℕ} → Below 256 book → encryptBookCall words way book out ≡ accepted n encrypted
+      → length out′ ≡ length book → decryptBookCall words way′ encrypted out′ ≡ accepted n book
+  unfolding encryptBookCall encryptBookBy bookChecks decryptBookCall
+  demand2-decrypts-under book out out′ r a e =
+      encrypted-decrypts _ _ (cipherLent bytes) (wordsAndWay words way) (wordsAndWay words way′) book out out′ r a (words-again words (passed _ _ _ a .checks) permitted) e
 
   -- An opened book seals to the same sealed bytes.
-  pub demand2-encrypts : (book out out′ : List ℕ) {n : ℕ} {decrypted : List ℕ} → Below 256 book → decryptBookCall key way book out ≡ accepted n decrypted
-      → length out′ ≡ length book → encryptBookCall key way′ decrypted out′ ≡ accepted n book
-  unfolding encryptBookCall decryptBookCall
-  demand2-encrypts book out out′ r a e =
-      let k : KeyLength (length key) = decryptBook-key key way book out a in
-      decrypted-encrypts (encrypt key) (decrypt key) (cipher k bytes) (keyAndWay key way) (keyAndWay key way′) book out out′ r a (keyAndWay-passes key k permitted) e
+  pub demand2-encrypts-under : (book out out′ : List ℕ) {n : ℕ} {decrypted : List ℕ} → Below 256 book → decryptBookCall words way book out ≡ accepted n decrypted
+      → length out′ ≡ length book → encryptBookCall words way′ decrypted out′ ≡ accepted n book
+  unfolding decryptBookCall decryptBookBy bookChecks encryptBookCall
+  demand2-encrypts-under book out out′ r a e =
+      decrypted-encrypts _ _ (cipherLent bytes) (wordsAndWay words way) (wordsAndWay words way′) book out out′ r a (words-again words (passed _ _ _ a .checks) permitted) e
 
--- So with single blocks: what one call has made, by F, the other one, by G, takes back.
-module _ (key : List ℕ) (bytes : Below 256 key) (way way′ : ℕ) (permitted : Way way′) (block out out′ : List ℕ) {n : ℕ} {bs : List ℕ} (below : Below 256 block) (room : length out′ ≡ 16) where
-  block-comes-back : {F G : List ℕ → List ℕ} → (KeyLength (length key) → Undone (Bytes 16) F G)
-      → judged (blockChecks (keyAndWay key way) block out) (accepted 1 (F block)) ≡ accepted n bs
-      → judged (blockChecks (keyAndWay key way′) bs out′) (accepted 1 (G bs)) ≡ accepted n block
+  -- So with single blocks: what one call has made, by F, the other one, by G, takes back.
+  block-comes-back : {F G : List ℕ → List ℕ} → Undone (Bytes 16) F G → (block out out′ : List ℕ) {n : ℕ} {bs : List ℕ} → Below 256 block → length out′ ≡ 16
+      → judged (blockChecks (wordsAndWay words way) block out) (accepted 1 (F block)) ≡ accepted n bs
+      → judged (blockChecks (wordsAndWay words way′) bs out′) (accepted 1 (G bs)) ≡ accepted n block
   unfolding blockChecks
-  block-comes-back {F} u a =
-      let p : Passed (blockChecks (keyAndWay key way) block out) 1 n _ bs = passed _ _ _ a in
-      let k : KeyLength (length key) = key-permitted (p .checks) in
+  block-comes-back {F} u block out out′ {n} {bs} below room a =
+      let p : Passed (blockChecks (wordsAndWay words way) block out) 1 n _ bs = passed _ _ _ a in
       let b : Bytes 16 block = record { size = block-size block (pass-tail (pass-tail (p .checks))); below = below } in
       rw (← p .sameBytes, ← p .sameCount)
-      (judged-pass (pass-append (keyAndWay-passes key k permitted) (pass-append (block-passes (F block) (u k .keeps block b .size)) (output-passes 16 out′ room))) _
-      ∙ ap (accepted 1) (u k .back block b))
+      (judged-pass (pass-append (words-again words (p .checks) permitted) (pass-append (block-passes (F block) (u .keeps block b .size)) (output-passes 16 out′ room))) _
+      ∙ ap (accepted 1) (u .back block b))
 
-  pub demand2-block-decrypts : encryptBlockCall key way block out ≡ accepted n bs → decryptBlockCall key way′ bs out′ ≡ accepted n block
+  pub demand2-block-decrypts-under : (block out out′ : List ℕ) {n : ℕ} {bs : List ℕ} → Below 256 block → length out′ ≡ 16
+      → encryptBlockCall words way block out ≡ accepted n bs → decryptBlockCall words way′ bs out′ ≡ accepted n block
   unfolding encryptBlockCall decryptBlockCall
-  demand2-block-decrypts = block-comes-back (λ k. cipher k bytes .encrypted)
+  demand2-block-decrypts-under = block-comes-back (cipherLent bytes .encrypted)
 
-  pub demand2-block-encrypts : decryptBlockCall key way block out ≡ accepted n bs → encryptBlockCall key way′ bs out′ ≡ accepted n block
+  pub demand2-block-encrypts-under : (block out out′ : List ℕ) {n : ℕ} {bs : List ℕ} → Below 256 block → length out′ ≡ 16
+      → decryptBlockCall words way block out ≡ accepted n bs → encryptBlockCall words way′ bs out′ ≡ accepted n block
   unfolding encryptBlockCall decryptBlockCall
-  demand2-block-encrypts = block-comes-back (λ k. cipher k bytes .decrypted)
+  demand2-block-encrypts-under = block-comes-back (cipherLent bytes .decrypted)
 
--- ---- demand 3: of two clear books a and b that sealing accepts under one key, each by whichever way. A sealed book is the whole lent output afterwards.
+-- Under one key: the first call is lent words of the key, and the second one the same or those that were expanded once more, by whichever way.
+module _ (key : List ℕ) {words words′ : List ℕ} (lent : Expanded key words) (lent′ : Expanded key words′) (way way′ : ℕ) (permitted : Way way′) where
+  same : words′ ≡ words
+  same = same-words lent′ lent
 
-pub record EncryptedAlike (key a b x y : List ℕ) : Type 0 where
+  pub demand2-decrypts : (book out out′ : List ℕ) {n : ℕ} {encrypted : List ℕ} → Below 256 book → encryptBookCall words way book out ≡ accepted n encrypted
+      → length out′ ≡ length book → decryptBookCall words′ way′ encrypted out′ ≡ accepted n book
+  demand2-decrypts book out out′ r a e = rw same (demand2-decrypts-under words (expanded-bytes lent) way way′ permitted book out out′ r a e)
+
+  pub demand2-encrypts : (book out out′ : List ℕ) {n : ℕ} {decrypted : List ℕ} → Below 256 book → decryptBookCall words way book out ≡ accepted n decrypted
+      → length out′ ≡ length book → encryptBookCall words′ way′ decrypted out′ ≡ accepted n book
+  demand2-encrypts book out out′ r a e = rw same (demand2-encrypts-under words (expanded-bytes lent) way way′ permitted book out out′ r a e)
+
+  pub demand2-block-decrypts : (block out out′ : List ℕ) {n : ℕ} {bs : List ℕ} → Below 256 block → length out′ ≡ 16
+      → encryptBlockCall words way block out ≡ accepted n bs → decryptBlockCall words′ way′ bs out′ ≡ accepted n block
+  demand2-block-decrypts block out out′ r e a = rw same (demand2-block-decrypts-under words (expanded-bytes lent) way way′ permitted block out out′ r e a)
+
+  pub demand2-block-encrypts : (block out out′ : List ℕ) {n : ℕ} {bs : List ℕ} → Below 256 block → length out′ ≡ 16
+      → decryptBlockCall words way block out ≡ accepted n bs → encryptBlockCall words′ way′ bs out′ ≡ accepted n block
+  demand2-block-encrypts block out out′ r e a = rw same (demand2-block-encrypts-under words (expanded-bytes lent) way way′ permitted block out out′ r e a)
+
+-- ---- demand 3: of two clear books a and b that sealing accepts under the same words, each by whichever way. A sealed book is the whole lent output afterwards;
+-- E is what each must be made by.
+
+pub record EncryptedAlike (E : List ℕ → List ℕ) (a b x y : List ℕ) : Type 0 where
   pub alike : (x ≡ y) ↔ (a ≡ b)
-  pub first : x ≡ encryptedBook key a
-  pub second : y ≡ encryptedBook key b
+  pub first : x ≡ encryptedBook E a
+  pub second : y ≡ encryptedBook E b
 
-pub demand3 : (key : List ℕ) → Below 256 key → (way way′ : ℕ) (a b out out′ : List ℕ) → Below 256 a → Below 256 b
-    → Accepted (encryptBookCall key way a out) → Accepted (encryptBookCall key way′ b out′)
-    → EncryptedAlike key a b (after out (encryptBookCall key way a out)) (after out′ (encryptBookCall key way′ b out′))
+-- The two are made by the cipher's data part under the words lent.
+pub demand3-under : (words : List ℕ) → Below 256 words → (way way′ : ℕ) (a b out out′ : List ℕ) → Below 256 a → Below 256 b
+    → Accepted (encryptBookCall words way a out) → Accepted (encryptBookCall words way′ b out′)
+    → EncryptedAlike (encryptUnder (lentWords words)) a b (after out (encryptBookCall words way a out)) (after out′ (encryptBookCall words way′ b out′))
 unfolding encryptBookCall encryptedBook
-demand3 key bytes way way′ a b out out′ ra rb pa pb =
-    let ea : encryptBookCall key way a out ≡ accepted _ (after out (encryptBookCall key way a out)) = accepted-is pa out in
-    let eb : encryptBookCall key way′ b out′ ≡ accepted _ (after out′ (encryptBookCall key way′ b out′)) = accepted-is pb out′ in
-    let c : BlockCipher (encrypt key) (decrypt key) = cipher (encryptBook-key key way a out ea) bytes in
+demand3-under words bytes way way′ a b out out′ ra rb pa pb =
+    let ea : encryptBookCall words way a out ≡ accepted _ (after out (encryptBookCall words way a out)) = accepted-is pa out in
+    let eb : encryptBookCall words way′ b out′ ≡ accepted _ (after out′ (encryptBookCall words way′ b out′)) = accepted-is pb out′ in
+    let c : BlockCipher (encryptUnder (lentWords words)) (decryptUnder (lentWords words)) = cipherLent bytes in
     record {
-      alike = encrypted-alike (encrypt key) (decrypt key) c (keyAndWay key way) (keyAndWay key way′) a b out out′ ra rb ea eb;
-      first = encrypted-is (encrypt key) (decrypt key) c (keyAndWay key way) a out ea;
-      second = encrypted-is (encrypt key) (decrypt key) c (keyAndWay key way′) b out′ eb;
+      alike = encrypted-alike _ _ c (wordsAndWay words way) (wordsAndWay words way′) a b out out′ ra rb ea eb;
+      first = encrypted-is _ _ c (wordsAndWay words way) a out ea;
+      second = encrypted-is _ _ c (wordsAndWay words way′) b out′ eb;
     }
 
--- The empty book, under any key and by any way: it is sealed to its head with another first byte, with the count 0.
-pub empty-book : (key out : List ℕ) {way : ℕ} → KeyLength (length key) → Way way → length out ≡ 4
-    → encryptBookCall key way (1 ∷ 0 ∷ 0 ∷ 0 ∷ []) out ≡ accepted 0 (2 ∷ 0 ∷ 0 ∷ 0 ∷ [])
+-- Under one key, whose words were expanded for each of the two by whichever way: they are made by the cipher under the key.
+pub demand3 : (key : List ℕ) → Below 256 key → {words words′ : List ℕ} → Expanded key words → Expanded key words′ → (way way′ : ℕ) (a b out out′ : List ℕ) → Below 256 a → Below 256 b
+    → Accepted (encryptBookCall words way a out) → Accepted (encryptBookCall words′ way′ b out′)
+    → EncryptedAlike (encrypt key) a b (after out (encryptBookCall words way a out)) (after out′ (encryptBookCall words′ way′ b out′))
+unfolding encrypt
+demand3 key bytes {words} lent lent′ way way′ a b out out′ ra rb pa pb =
+    rw (same-words lent′ lent)
+    (rw (lent-expanded bytes lent) at
+    (demand3-under words (expanded-bytes lent) way way′ a b out out′ ra rb pa (rw (same-words lent′ lent) at pb)))
+
+-- The empty book, under any words of a permitted count and by any way: it is sealed to its head with another first byte, with the count 0.
+pub empty-book : (words out : List ℕ) {way : ℕ} → WordsLength (length words) → Way way → length out ≡ 4
+    → encryptBookCall words way (1 ∷ 0 ∷ 0 ∷ 0 ∷ []) out ≡ accepted 0 (2 ∷ 0 ∷ 0 ∷ 0 ∷ [])
 unfolding fromDigits number pieces entriesHold recordCount formChecks eachBody sheetsHold recordsCheck recoded bookChecks encryptBookBy encryptBookCall
-empty-book key out k w e =
-    judged-pass (pass-append (keyAndWay-passes key k w) (pass-append (output-passes 4 out e) (more (more (more (more (more (more (more none))))))))) _
+empty-book words out k w e =
+    judged-pass (pass-append (wordsAndWay-passes words k w) (pass-append (output-passes 4 out e) (more (more (more (more (more (more (more none))))))))) _

@@ -1,4 +1,5 @@
 pub mod CheckLaws
+pub mod UnderKey
 pub mod Undoing
 pub mod BookLaws
 pub mod BookCipher

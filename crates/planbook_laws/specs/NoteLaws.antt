@@ -1,5 +1,5 @@
 -- Theorems of notes. Those of counter mode hold for any E that gives blocks of 16 bytes, most of them for any E at all; those of the call are over any list of
--- checks about key and way, and are then taken to keys.
+-- checks about words and way, and are then taken to words and to keys.
 use Prim.Native.Nat.{ℕ, zero, suc, _+_, _*_, _%_, _^_, _≤_, _<_}
 use mathlib.Core.List.{List, [], _∷_, _++_}
 use mathlib.Core.Logic.{_↔_}
@@ -11,15 +11,16 @@ use lib.Dec.{lit<}
 use lib.ListN.{length, take, drop, length-drop, take-append-drop}
 use lib.Seq.{take-at, take-all, drop-at, drop-drop, length-take-le}
 use Rattle.clefia_spec.specs.Words.{fromDigits, toDigits, xors}
-use Rattle.clefia_spec.specs.Block.{encrypt}
+use Rattle.clefia_spec.specs.Block.{encryptUnder}
 use Rattle.clefia_laws.specs.DigitLaws.{from-to, to-from, fromDigits-lt, below-drop, length-xors, xors-cancel, take-xors, drop-xors}
 use Rattle.clefia_laws.specs.RowLaws.{Bytes}
 use Rattle.planbook_spec.specs.Outcome.{accepted, after, Check}
 use Rattle.planbook_spec.specs.OutcomeLaws.{AllPass, pass-head, pass-tail, pass-right, pass-append, pass-check, judged-pass, Passed, passed, Accepted, accepted-is, Judges, judges}
-use Rattle.planbook_spec.specs.Checks.{keyAndWay}
+use Rattle.planbook_spec.specs.Checks.{lentWords, wordsAndWay}
 use Rattle.planbook_spec.specs.Book.{number}
 use Rattle.planbook_spec.specs.Note.{counterBlock, keystream, blockCount, ctr, noteCheck, noteChecks, cryptNoteBy, cryptNoteCall}
-use Rattle.planbook_laws.specs.CheckLaws.{Way, key-permitted, block-size, output-size, block-passes, output-passes, keyAndWay-passes}
+use Rattle.planbook_laws.specs.CheckLaws.{Way, block-size, output-size, block-passes, output-passes, words-again}
+use Rattle.planbook_laws.specs.UnderKey.{Expanded, same-words}
 
 -- ---- counter blocks
 
@@ -83,7 +84,7 @@ module _ (E : List ℕ → List ℕ) (counter : List ℕ) (sixteen : (i : ℕ) �
   ctr-block note i h =
       rw (drop-xors (16 * i) _ note, take-xors 16 _ (drop (16 * i) note), keystream-block (blockCount note) 0 i (omega arith), zero-add)
 
--- ---- the call, whatever is checked of key and way
+-- ---- the call, whatever is checked of words and way
 
 note-size : (note : List ℕ) {cs : List Check} → AllPass (noteCheck note ∷ cs) → length note ≤ 16384
 unfolding noteCheck
@@ -125,31 +126,42 @@ module _ (E : List ℕ → List ℕ) (cs cs′ : List Check) (counter : List ℕ
       let eb = passed _ _ _ (accepted-is pb out′) .sameBytes in
       (λ e. ctr-injective E counter (ea ∙ e ∙ sym eb), λ e. sym ea ∙ ap (ctr E counter) e ∙ eb)
 
--- ---- under a key, by any way each time
+-- ---- under the same words, by any way each time
 
-pub demand1-cryptNote : (key : List ℕ) (way : ℕ) (counter note out : List ℕ)
-    → Judges (noteChecks (keyAndWay key way) counter note out) (length note) (ctr (encrypt key) counter note) (cryptNoteCall key way counter note out)
+pub demand1-cryptNote : (words : List ℕ) (way : ℕ) (counter note out : List ℕ)
+    → Judges (noteChecks (wordsAndWay words way) counter note out) (length note) (ctr (encryptUnder (lentWords words)) counter note) (cryptNoteCall words way counter note out)
 unfolding cryptNoteCall cryptNoteBy
-demand1-cryptNote key way counter note out = judges _ _ _
+demand1-cryptNote words way counter note out = judges _ _ _
 
-module _ (key : List ℕ) (way way′ : ℕ) (counter : List ℕ) where
+module _ (words : List ℕ) (way way′ : ℕ) (counter : List ℕ) where
   -- What the call has made of a note, it makes the note of.
-  pub note-comes-back : Way way′ → (note out out′ : List ℕ) {n : ℕ} {bs : List ℕ} → cryptNoteCall key way counter note out ≡ accepted n bs → length out′ ≡ length note
-      → cryptNoteCall key way′ counter bs out′ ≡ accepted n note
+  pub note-comes-back-under : Way way′ → (note out out′ : List ℕ) {n : ℕ} {bs : List ℕ} → cryptNoteCall words way counter note out ≡ accepted n bs → length out′ ≡ length note
+      → cryptNoteCall words way′ counter bs out′ ≡ accepted n note
   unfolding cryptNoteCall cryptNoteBy noteChecks
-  note-comes-back permitted note out out′ a e =
-      crypted-back (encrypt key) (keyAndWay key way) (keyAndWay key way′) counter note out out′ a (keyAndWay-passes key (key-permitted (passed _ _ _ a .checks)) permitted) e
+  note-comes-back-under permitted note out out′ a e =
+      crypted-back _ (wordsAndWay words way) (wordsAndWay words way′) counter note out out′ a (words-again words (passed _ _ _ a .checks) permitted) e
 
-  -- Two notes under one key and one first counter block are equal exactly where their texts are.
-  pub notes-alike : (a b out out′ : List ℕ) → Accepted (cryptNoteCall key way counter a out) → Accepted (cryptNoteCall key way′ counter b out′)
-      → (after out (cryptNoteCall key way counter a out) ≡ after out′ (cryptNoteCall key way′ counter b out′)) ↔ (a ≡ b)
+  -- Two notes under the same words and one first counter block are equal exactly where their texts are.
+  pub notes-alike-under : (a b out out′ : List ℕ) → Accepted (cryptNoteCall words way counter a out) → Accepted (cryptNoteCall words way′ counter b out′)
+      → (after out (cryptNoteCall words way counter a out) ≡ after out′ (cryptNoteCall words way′ counter b out′)) ↔ (a ≡ b)
   unfolding cryptNoteCall
-  notes-alike = crypted-alike (encrypt key) (keyAndWay key way) (keyAndWay key way′) counter
+  notes-alike-under = crypted-alike _ (wordsAndWay words way) (wordsAndWay words way′) counter
+
+-- The same under one key, whose words were expanded for each of the two calls by whichever way.
+module _ (key : List ℕ) {words words′ : List ℕ} (lent : Expanded key words) (lent′ : Expanded key words′) (way way′ : ℕ) (counter : List ℕ) where
+  pub note-comes-back : Way way′ → (note out out′ : List ℕ) {n : ℕ} {bs : List ℕ} → cryptNoteCall words way counter note out ≡ accepted n bs → length out′ ≡ length note
+      → cryptNoteCall words′ way′ counter bs out′ ≡ accepted n note
+  note-comes-back permitted note out out′ a e = rw (same-words lent′ lent) (note-comes-back-under words way way′ counter permitted note out out′ a e)
+
+  pub notes-alike : (a b out out′ : List ℕ) → Accepted (cryptNoteCall words way counter a out) → Accepted (cryptNoteCall words′ way′ counter b out′)
+      → (after out (cryptNoteCall words way counter a out) ≡ after out′ (cryptNoteCall words′ way′ counter b out′)) ↔ (a ≡ b)
+  notes-alike a b out out′ pa pb =
+      rw (same-words lent′ lent) (notes-alike-under words way way′ counter a b out out′ pa (rw (same-words lent′ lent) at pb))
 
 -- Within one note no counter block comes twice.
-pub note-counters-differ : (key : List ℕ) (way : ℕ) (counter note out : List ℕ) {n : ℕ} {bs : List ℕ} → cryptNoteCall key way counter note out ≡ accepted n bs
+pub note-counters-differ : (words : List ℕ) (way : ℕ) (counter note out : List ℕ) {n : ℕ} {bs : List ℕ} → cryptNoteCall words way counter note out ≡ accepted n bs
     → {i j : ℕ} → i < blockCount note → j < blockCount note → counterBlock counter i ≡ counterBlock counter j → i ≡ j
 unfolding cryptNoteCall cryptNoteBy blockCount
-note-counters-differ key way counter note out a h k e =
-    let s : length note ≤ 16384 = note-passed (keyAndWay key way) counter note out (passed _ _ _ a .checks) .short in
+note-counters-differ words way counter note out a h k e =
+    let s : length note ≤ 16384 = note-passed (wordsAndWay words way) counter note out (passed _ _ _ a .checks) .short in
     counters-differ counter (omega arith) (omega arith) e

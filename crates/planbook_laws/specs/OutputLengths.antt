@@ -4,20 +4,20 @@ use mathlib.Core.List.{List}
 use mathlib.Core.Path.{_≡_, sym, ap, _∙_}
 use native.Mathlib.Nat.{mul-comm}
 use lib.ListN.{length}
-use Rattle.clefia_spec.specs.Words.{KeyLength, Below, bytesOf}
-use Rattle.clefia_spec.specs.Block.{encrypt}
+use Rattle.clefia_spec.specs.Words.{Below, bytesOf}
+use Rattle.clefia_spec.specs.Block.{encryptUnder}
 use Rattle.clefia_laws.specs.RowLaws.{Bytes, Undone}
 use Rattle.clefia_laws.specs.DigitLaws.{length-digitsOf}
 use Rattle.clefia_laws.specs.KeyLaws.{length-constants, length-expandKey}
 use Rattle.planbook_spec.specs.Outcome.{accepted, judged}
 use Rattle.planbook_spec.specs.OutcomeLaws.{pass-tail, passed}
-use Rattle.planbook_spec.specs.Checks.{keyAndWay, constantCount, expandedCount, constantsCall, expandKeyCall, blockChecks, encryptBlockCall, decryptBlockCall}
+use Rattle.planbook_spec.specs.Checks.{lentWords, wordsAndWay, constantCount, expandedCount, constantsCall, expandKeyCall, blockChecks, encryptBlockCall, decryptBlockCall}
 use Rattle.planbook_laws.specs.CheckLaws.{key-permitted, output-size, block-size}
 use Rattle.planbook_spec.specs.Book.{encryptBookCall, decryptBookCall}
 use Rattle.planbook_spec.specs.Note.{cryptNoteBy, cryptNoteCall}
 use Rattle.planbook_spec.specs.Page.{pageChecks, page, lineCount, pageCall}
 use Rattle.planbook_laws.specs.BookCipher.{encrypted-length, decrypted-length}
-use Rattle.planbook_laws.specs.Demands.{cipher, encryptBook-key, decryptBook-key}
+use Rattle.planbook_laws.specs.Demands.{cipherLent}
 use Rattle.planbook_laws.specs.NoteLaws.{length-ctr, note-passed}
 use Rattle.planbook_laws.specs.PageLaws.{length-page, page-passed}
 
@@ -37,38 +37,38 @@ expandKey-length key way out r a =
     let p = passed _ _ _ a in
     ap length (sym (p .sameBytes)) ∙ words-length _ _ (length-expandKey (key-permitted (p .checks)) r) ∙ sym (output-size out (pass-tail (pass-tail (p .checks))))
 
-module _ (key : List ℕ) (way : ℕ) (block out : List ℕ) {n : ℕ} {bs : List ℕ} (bytes : Below 256 key) (below : Below 256 block) where
-  block-length : {F G : List ℕ → List ℕ} → (KeyLength (length key) → Undone (Bytes 16) F G)
-      → judged (blockChecks (keyAndWay key way) block out) (accepted 1 (F block)) ≡ accepted n bs → length bs ≡ length out
+module _ (words : List ℕ) (way : ℕ) (block out : List ℕ) {n : ℕ} {bs : List ℕ} (bytes : Below 256 words) (below : Below 256 block) where
+  block-length : {F G : List ℕ → List ℕ} → Undone (Bytes 16) F G
+      → judged (blockChecks (wordsAndWay words way) block out) (accepted 1 (F block)) ≡ accepted n bs → length bs ≡ length out
   unfolding blockChecks
   block-length u a =
       let p = passed _ _ _ a in
       ap length (sym (p .sameBytes))
-      ∙ u (key-permitted (p .checks)) .keeps block (record { size = block-size block (pass-tail (pass-tail (p .checks))); below = below }) .size
+      ∙ u .keeps block (record { size = block-size block (pass-tail (pass-tail (p .checks))); below = below }) .size
       ∙ sym (output-size out (pass-tail (pass-tail (pass-tail (p .checks)))))
 
-  pub encryptBlock-length : encryptBlockCall key way block out ≡ accepted n bs → length bs ≡ length out
+  pub encryptBlock-length : encryptBlockCall words way block out ≡ accepted n bs → length bs ≡ length out
   unfolding encryptBlockCall
-  encryptBlock-length = block-length (λ k. cipher k bytes .encrypted)
+  encryptBlock-length = block-length (cipherLent bytes .encrypted)
 
-  pub decryptBlock-length : decryptBlockCall key way block out ≡ accepted n bs → length bs ≡ length out
+  pub decryptBlock-length : decryptBlockCall words way block out ≡ accepted n bs → length bs ≡ length out
   unfolding decryptBlockCall
-  decryptBlock-length = block-length (λ k. cipher k bytes .decrypted)
+  decryptBlock-length = block-length (cipherLent bytes .decrypted)
 
-module _ (key : List ℕ) (way : ℕ) (book out : List ℕ) {n : ℕ} {bs : List ℕ} (bytes : Below 256 key) (below : Below 256 book) where
-  pub encryptBook-length : encryptBookCall key way book out ≡ accepted n bs → length bs ≡ length out
+module _ (words : List ℕ) (way : ℕ) (book out : List ℕ) {n : ℕ} {bs : List ℕ} (bytes : Below 256 words) (below : Below 256 book) where
+  pub encryptBook-length : encryptBookCall words way book out ≡ accepted n bs → length bs ≡ length out
   unfolding encryptBookCall
-  encryptBook-length a = encrypted-length _ _ (cipher (encryptBook-key key way book out a) bytes) _ book out below a
+  encryptBook-length a = encrypted-length _ _ (cipherLent bytes) _ book out below a
 
-  pub decryptBook-length : decryptBookCall key way book out ≡ accepted n bs → length bs ≡ length out
+  pub decryptBook-length : decryptBookCall words way book out ≡ accepted n bs → length bs ≡ length out
   unfolding decryptBookCall
-  decryptBook-length a = decrypted-length _ _ (cipher (decryptBook-key key way book out a) bytes) _ book out below a
+  decryptBook-length a = decrypted-length _ _ (cipherLent bytes) _ book out below a
 
-pub cryptNote-length : (key : List ℕ) (way : ℕ) (counter note out : List ℕ) {n : ℕ} {bs : List ℕ} → cryptNoteCall key way counter note out ≡ accepted n bs → length bs ≡ length out
+pub cryptNote-length : (words : List ℕ) (way : ℕ) (counter note out : List ℕ) {n : ℕ} {bs : List ℕ} → cryptNoteCall words way counter note out ≡ accepted n bs → length bs ≡ length out
 unfolding cryptNoteCall cryptNoteBy
-cryptNote-length key way counter note out a =
+cryptNote-length words way counter note out a =
     let p = passed _ _ _ a in
-    ap length (sym (p .sameBytes)) ∙ length-ctr (encrypt key) counter note ∙ sym (note-passed (keyAndWay key way) counter note out (p .checks) .room)
+    ap length (sym (p .sameBytes)) ∙ length-ctr (encryptUnder (lentWords words)) counter note ∙ sym (note-passed (wordsAndWay words way) counter note out (p .checks) .room)
 
 -- A page has 32 bytes for each line that the count tells.
 pub page-length : (book : List ℕ) (i : ℕ) (out : List ℕ) {n : ℕ} {bs : List ℕ} → pageCall book i out ≡ accepted n bs → (length bs ≡ length out) × (length bs ≡ 32 * n)

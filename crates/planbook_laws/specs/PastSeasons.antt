@@ -10,12 +10,14 @@ use mathlib.Core.Path.{_≡_, refl, sym, ap, _∙_}
 use borrow.Author.Tests.{eqb-true}
 use lib.Dec.{eqb, leb, ltb}
 use lib.ListN.{length, getD, take, drop}
-use Rattle.clefia_spec.specs.Words.{choose}
+use Rattle.clefia_spec.specs.Words.{choose, Below}
 use Rattle.clefia_spec.specs.Block.{encrypt, decrypt}
 use Rattle.clefia_spec.specs.Cases.{both-true}
 use Rattle.planbook_spec.specs.Outcome.{Outcome, refused, accepted, Check, check, judged}
 use Rattle.planbook_spec.specs.OutcomeLaws.{AllPass, judged-pass, judged-append, pass-head, pass-tail, pass-left, pass-right, Passed, passed}
 use Rattle.planbook_spec.specs.Checks.{outputCheck, keyAndWay}
+use Rattle.planbook_laws.specs.CheckLaws.{Way, way-passes}
+use Rattle.planbook_laws.specs.UnderKey.{Expanded, encryptBook-under-key, decryptBook-under-key}
 use Rattle.planbook_spec.specs.Book.{number, pieces, trial, count, replicates, entryHolds, entriesHold, recordTrial, recordEntry, recordReplicate, recordRow, recordColumn, plotHolds, recordHolds, allRecordsHold, sheetCount, contents, bodies, recordCount, formChecks, sheetsHold, recordsCheck, asItIs, encryptBody, decryptBody, recoded, bookChecks, encryptBookBy, decryptBookBy, encryptBookCall, decryptBookCall}
 use Rattle.planbook_laws.specs.Undoing.{Every, nothing, both, every-map}
 
@@ -72,7 +74,7 @@ pastFormChecks rule mark book out =
     ∷ check 10 (eqb (length book) (4 + 24 * sheetCount book + 16 * recordCount (contents book)))
     ∷ []
 
--- The checks of a call on a whole book: some list cs about key and way, then 4 to 10, and 11.
+-- The checks of a call on a whole book: some list cs about key and way, or words and way, then 4 to 10, and 11.
 unfoldable pub pastBookChecks : PastRule → List Check → ℕ → (List ℕ → List ℕ → List ℕ) → List ℕ → List ℕ → List Check
 pastBookChecks rule cs mark f book out =
     cs ++ (pastFormChecks rule mark book out ++ (check 11 (everySheet (pastRecordHolds rule) f (contents book) (bodies book)) ∷ []))
@@ -159,7 +161,7 @@ past-checks : (rule : PastRule) (cs : List Check) (book out : List ℕ) → Ever
 unfolding formChecks recordsCheck bookChecks pastFormChecks
 past-checks rule cs book out every mark f = rw (past-entries rule 0 every, past-sheets rule f (bodies book) every)
 
--- ---- 0 in byte 6 of every entry, and the rule of plots kept: for any cipher, and any checks cs about key and way, so for the exported calls
+-- ---- 0 in byte 6 of every entry, and the rule of plots kept: for any cipher, and any checks cs about words and way, so for the exported calls
 
 module _ (cs : List Check) (book out : List ℕ) (every : Every Unnumbered (contents book)) where
   kept-checks : (mark : ℕ) (f : List ℕ → List ℕ → List ℕ) → plotsHold f book ≡ true → bookChecks cs mark f book out ≡ pastBookChecks firstRule cs mark f book out
@@ -205,36 +207,39 @@ unfolding judged
 one-check c true o = refl
 one-check c false o = refl
 
-last-check : (c : ℕ) (cs ds : List Check) (p q : Bool) (o : Outcome) → AllPass (cs ++ (ds ++ (check c p ∷ [])))
+last-check : (c : ℕ) {cs : List Check} (ds : List Check) (p q : Bool) (o : Outcome) → AllPass cs → AllPass (ds ++ (check c p ∷ []))
     → judged (cs ++ (ds ++ (check c (p && q) ∷ []))) o ≡ choose q o (refused c)
-last-check c cs ds p q o a =
-    let b : AllPass (ds ++ (check c p ∷ [])) = pass-right cs _ a in
+last-check c {cs} ds p q o a b =
     let t : p ≡ true = pass-head (pass-right ds _ b) in
     judged-append cs (ds ++ (check c (p && q) ∷ [])) o
-    ∙ judged-pass (pass-left cs _ a) _
+    ∙ judged-pass a _
     ∙ judged-append ds (check c (p && q) ∷ []) o
     ∙ judged-pass (pass-left ds _ b) _
     ∙ rw t (one-check c q o)
 
-module _ {rule : PastRule} (season : Season rule) (cs : List Check) (mark : ℕ) (f : List ℕ → List ℕ → List ℕ) (book out : List ℕ) (o : Outcome) where
-  past-judged : AllPass (pastBookChecks rule cs mark f book out) → judged (bookChecks cs mark f book out) o ≡ choose (plotsHold f book) o (refused 11)
+module _ {rule : PastRule} (season : Season rule) (cs : List Check) {cs′ : List Check} (mark : ℕ) (f : List ℕ → List ℕ → List ℕ) (book out : List ℕ) (o : Outcome) where
+  past-judged : AllPass (pastBookChecks rule cs mark f book out) → AllPass cs′ → judged (bookChecks cs′ mark f book out) o ≡ choose (plotsHold f book) o (refused 11)
   unfolding pastBookChecks
-  past-judged p =
-      let every : Every (Alike rule) (contents book) = past-alike season mark book out (pass-left (pastFormChecks rule mark book out) _ (pass-right cs _ p)) in
-      ap (λ (ks : List Check). judged ks o) (past-checks rule cs book out every mark f)
-      ∙ last-check 11 cs (pastFormChecks rule mark book out) (everySheet (pastRecordHolds rule) f (contents book) (bodies book)) (plotsHold f book) o p
+  past-judged p q =
+      let b : AllPass (pastFormChecks rule mark book out ++ (check 11 (everySheet (pastRecordHolds rule) f (contents book) (bodies book)) ∷ [])) = pass-right cs _ p in
+      let every : Every (Alike rule) (contents book) = past-alike season mark book out (pass-left (pastFormChecks rule mark book out) _ b) in
+      ap (λ (ks : List Check). judged ks o) (past-checks rule cs′ book out every mark f)
+      ∙ last-check 11 (pastFormChecks rule mark book out) (everySheet (pastRecordHolds rule) f (contents book) (bodies book)) (plotsHold f book) o q b
 
-module _ {rule : PastRule} (season : Season rule) (key : List ℕ) (way : ℕ) (book out : List ℕ) {n : ℕ} {bs : List ℕ} where
+-- The calls of past seasons took the key. Today's are lent the words that were expanded for it, and may go by another way.
+module _ {rule : PastRule} (season : Season rule) (key : List ℕ) (bytes : Below 256 key) {words : List ℕ} (lent : Expanded key words) (way : ℕ) {way′ : ℕ} (permitted : Way way′) (book out : List ℕ) {n : ℕ} {bs : List ℕ} where
   pub past-accepted-encrypts : pastEncryptBookBy rule (keyAndWay key way) (encrypt key) book out ≡ accepted n bs
-      → encryptBookCall key way book out ≡ choose (plotsHold asItIs book) (accepted n bs) (refused 11)
-  unfolding pastEncryptBookBy encryptBookBy encryptBookCall
+      → encryptBookCall words way′ book out ≡ choose (plotsHold asItIs book) (accepted n bs) (refused 11)
+  unfolding pastEncryptBookBy encryptBookBy
   past-accepted-encrypts a =
       let p : Passed _ _ n _ bs = passed _ _ _ a in
-      past-judged season (keyAndWay key way) 1 asItIs book out _ (p .checks) ∙ rw (p .sameCount, p .sameBytes)
+      encryptBook-under-key bytes lent way′ book out
+      ∙ past-judged season (keyAndWay key way) 1 asItIs book out _ (p .checks) (way-passes permitted) ∙ rw (p .sameCount, p .sameBytes)
 
   pub past-accepted-decrypts : pastDecryptBookBy rule (keyAndWay key way) (decrypt key) book out ≡ accepted n bs
-      → decryptBookCall key way book out ≡ choose (plotsHold (decryptBody (decrypt key)) book) (accepted n bs) (refused 11)
-  unfolding pastDecryptBookBy decryptBookBy decryptBookCall
+      → decryptBookCall words way′ book out ≡ choose (plotsHold (decryptBody (decrypt key)) book) (accepted n bs) (refused 11)
+  unfolding pastDecryptBookBy decryptBookBy
   past-accepted-decrypts a =
       let p : Passed _ _ n _ bs = passed _ _ _ a in
-      past-judged season (keyAndWay key way) 2 (decryptBody (decrypt key)) book out _ (p .checks) ∙ rw (p .sameCount, p .sameBytes)
+      decryptBook-under-key bytes lent way′ book out
+      ∙ past-judged season (keyAndWay key way) 2 (decryptBody (decrypt key)) book out _ (p .checks) (way-passes permitted) ∙ rw (p .sameCount, p .sameBytes)

@@ -5,10 +5,10 @@ use mathlib.Core.List.{List, [], _∷_, _++_}
 use mathlib.Core.Path.{refl}
 use lib.ListN.{take, drop, set, replicate}
 use lib.Seq.{sets}
-use Rattle.clefia_spec.specs.Words.{fromDigits, toDigits, xors}
+use Rattle.clefia_spec.specs.Words.{fromDigits, toDigits, numbersOf, xors}
 use Rattle.clefia_spec.specs.Cases.{Case, _gives_, AllHold, allSame, computed}
 use Rattle.planbook_spec.specs.Outcome.{answer, after, judged}
-use Rattle.planbook_spec.specs.Checks.{keyCheck, wayCheck, blockCheck, outputCheck, constantCount, expandedCount, constantsCall, expandKeyCall, blockChecks, encryptBlockCall, decryptBlockCall}
+use Rattle.planbook_spec.specs.Checks.{keyCheck, wayCheck, blockCheck, outputCheck, wordsCheck, lentWords, constantCount, expandedCount, constantsCall, expandKeyCall, blockChecks, encryptBlockCall, decryptBlockCall}
 use Rattle.planbook_spec.specs.Book.{number, pieces, replicates, entryHolds, entriesHold, plotHolds, recordHolds, allRecordsHold, recordCount, formChecks, eachBody, sheetsHold, recordsCheck, cbcEncrypt, cbcDecrypt, encryptBody, decryptBody, recoded, bookChecks, encryptBookBy, decryptBookBy, encryptBookCall, decryptBookCall}
 
 -- The toy: the bytes of a block rotated by one place.
@@ -165,7 +165,25 @@ pub bookCases-hold : AllHold bookCases
 unfolding bookCases rising allSame fromDigits toDigits xors answer after judged outputCheck number pieces replicates entryHolds entriesHold plotHolds recordHolds allRecordsHold recordCount formChecks eachBody sheetsHold recordsCheck cbcEncrypt cbcDecrypt encryptBody decryptBody recoded bookChecks encryptBookBy decryptBookBy
 bookCases-hold = computed bookCases refl
 
--- Checks 1 to 5, most with two or more that fail at once, and the counts.
+-- What both calls for a block answer under words of w bytes, by a way, to a block of n bytes with an output of m; and both calls for a book, to one of n.
+abbrev pub blockAnswers : ℕ → ℕ → ℕ → ℕ → List ℕ
+blockAnswers w way n m =
+    answer (encryptBlockCall (replicate w 0) way (replicate n 0) (replicate m 0))
+    ∷ answer (decryptBlockCall (replicate w 0) way (replicate n 0) (replicate m 0))
+    ∷ []
+
+abbrev pub bookAnswers : ℕ → ℕ → ℕ → ℕ → List ℕ
+bookAnswers w way n m =
+    answer (encryptBookCall (replicate w 0) way (replicate n 0) (replicate m 0))
+    ∷ answer (decryptBookCall (replicate w 0) way (replicate n 0) (replicate m 0))
+    ∷ []
+
+-- What both calls for a block answer under words of each of these lengths.
+unfoldable pub wordsAnswers : List ℕ → List ℕ
+wordsAnswers [] = []
+wordsAnswers (w ∷ ws) = blockAnswers w 1 16 16 ++ wordsAnswers ws
+
+-- Checks 1 to 5 and 14, most with two or more that fail at once, and the counts.
 pub callCases : List Case
 callCases =
     -- constants: 1, 4
@@ -183,28 +201,27 @@ callCases =
     ∷ (answer (expandKeyCall (replicate 16 0) 3 (replicate 40 0)) ∷ [] gives 4 * 2 ^ 32 ∷ [])
     ∷ (answer (expandKeyCall (replicate 24 0) 3 (replicate 160 0)) ∷ [] gives 4 * 2 ^ 32 ∷ [])
     ∷ (answer (expandKeyCall (replicate 32 0) 3 (replicate 192 0)) ∷ [] gives 4 * 2 ^ 32 ∷ [])
-    -- blocks: 1, 2, 3, 4
-    ∷ (answer (encryptBlockCall (replicate 33 0) 4 (replicate 15 0) (replicate 15 0)) ∷ [] gives 1 * 2 ^ 32 ∷ [])
-    ∷ (answer (encryptBlockCall (replicate 16 0) 4 (replicate 15 0) (replicate 15 0)) ∷ [] gives 2 * 2 ^ 32 ∷ [])
-    ∷ (answer (encryptBlockCall (replicate 16 0) 3 (replicate 15 0) (replicate 15 0)) ∷ [] gives 3 * 2 ^ 32 ∷ [])
-    ∷ (answer (encryptBlockCall (replicate 16 0) 3 (replicate 17 0) (replicate 16 0)) ∷ [] gives 3 * 2 ^ 32 ∷ [])
-    ∷ (answer (encryptBlockCall (replicate 16 0) 3 (replicate 16 0) (replicate 17 0)) ∷ [] gives 4 * 2 ^ 32 ∷ [])
-    ∷ (answer (decryptBlockCall (replicate 16 0) 3 (replicate 15 0) (replicate 15 0)) ∷ [] gives 3 * 2 ^ 32 ∷ [])
-    ∷ (answer (decryptBlockCall (replicate 16 0) 3 (replicate 16 0) (replicate 17 0)) ∷ [] gives 4 * 2 ^ 32 ∷ [])
-    -- accepted, with the count: each key length and each way
+    -- words, the highest byte first, as many as there are; 14: the lengths of keys, the counts of words, one byte beside each permitted length, whole words between
+    -- them, and one that is permitted where it is cut to eight bits; and the three permitted ones
+    ∷ (lentWords (rising 12 1) gives 0x01020304 ∷ 0x05060708 ∷ 0x090a0b0c ∷ [])
+    ∷ (wordsAnswers (0 ∷ 16 ∷ 24 ∷ 32 ∷ 40 ∷ 48 ∷ 56 ∷ 159 ∷ 161 ∷ 176 ∷ 191 ∷ 193 ∷ 208 ∷ 223 ∷ 225 ∷ 416 ∷ []) gives replicate 32 (14 * 2 ^ 32))
+    ∷ (wordsAnswers (160 ∷ 192 ∷ 224 ∷ []) gives replicate 6 1)
+    -- blocks: 14, 2, 3, 4
+    ∷ (blockAnswers 161 4 15 15 ++ blockAnswers 0 1 15 16 ++ blockAnswers 225 2 16 17 gives replicate 6 (14 * 2 ^ 32))
+    ∷ (blockAnswers 160 4 15 15 ++ blockAnswers 192 0 16 15 gives replicate 4 (2 * 2 ^ 32))
+    ∷ (blockAnswers 160 3 15 15 ++ blockAnswers 224 3 17 16 gives replicate 4 (3 * 2 ^ 32))
+    ∷ (blockAnswers 160 3 16 17 ++ blockAnswers 192 1 16 15 gives replicate 4 (4 * 2 ^ 32))
+    -- accepted, with the count: each key length or count of words, and each way
     ∷ (answer (constantsCall 16 (replicate 240 0)) ∷ answer (constantsCall 24 (replicate 336 0)) ∷ answer (constantsCall 32 (replicate 368 0)) ∷ [] gives 60 ∷ 84 ∷ 92 ∷ [])
     ∷ (answer (expandKeyCall (replicate 16 0) 1 (replicate 160 0)) ∷ answer (expandKeyCall (replicate 24 0) 2 (replicate 192 0)) ∷ answer (expandKeyCall (replicate 32 0) 3 (replicate 224 0)) ∷ [] gives 40 ∷ 48 ∷ 56 ∷ [])
-    ∷ (answer (encryptBlockCall (replicate 16 0) 1 (replicate 16 0) (replicate 16 0)) ∷ answer (decryptBlockCall (replicate 16 0) 2 (replicate 16 0) (replicate 16 0)) ∷ [] gives 1 ∷ 1 ∷ [])
-    -- books: 1, 2, 4, 5
-    ∷ (answer (encryptBookCall (replicate 15 0) 4 [] (replicate 4 0)) ∷ [] gives 1 * 2 ^ 32 ∷ [])
-    ∷ (answer (encryptBookCall (replicate 32 0) 4 [] (replicate 4 0)) ∷ [] gives 2 * 2 ^ 32 ∷ [])
-    ∷ (answer (encryptBookCall (replicate 32 0) 1 [] (replicate 4 0)) ∷ [] gives 4 * 2 ^ 32 ∷ [])
-    ∷ (answer (encryptBookCall (replicate 32 0) 1 [] []) ∷ [] gives 5 * 2 ^ 32 ∷ [])
-    ∷ (answer (decryptBookCall (replicate 15 0) 4 [] (replicate 4 0)) ∷ [] gives 1 * 2 ^ 32 ∷ [])
-    ∷ (answer (decryptBookCall (replicate 32 0) 4 [] (replicate 4 0)) ∷ [] gives 2 * 2 ^ 32 ∷ [])
-    ∷ (answer (decryptBookCall (replicate 32 0) 1 [] (replicate 4 0)) ∷ [] gives 4 * 2 ^ 32 ∷ [])
+    ∷ (blockAnswers 160 1 16 16 ++ blockAnswers 192 2 16 16 ++ blockAnswers 224 3 16 16 gives replicate 6 1)
+    -- books: 14, 2, 4, 5
+    ∷ (bookAnswers 32 4 0 4 ++ bookAnswers 161 1 0 4 ++ bookAnswers 223 1 0 0 gives replicate 6 (14 * 2 ^ 32))
+    ∷ (bookAnswers 224 4 0 4 ++ bookAnswers 160 0 0 0 gives replicate 4 (2 * 2 ^ 32))
+    ∷ (bookAnswers 224 1 0 4 ++ bookAnswers 192 2 4 3 gives replicate 4 (4 * 2 ^ 32))
+    ∷ (bookAnswers 224 1 0 0 ++ bookAnswers 160 3 3 3 gives replicate 4 (5 * 2 ^ 32))
     ∷ []
 
 pub callCases-hold : AllHold callCases
-unfolding callCases allSame answer judged keyCheck wayCheck blockCheck outputCheck constantCount expandedCount constantsCall expandKeyCall blockChecks encryptBlockCall decryptBlockCall formChecks bookChecks encryptBookBy decryptBookBy encryptBookCall decryptBookCall
+unfolding callCases rising wordsAnswers allSame fromDigits numbersOf answer judged keyCheck wayCheck blockCheck outputCheck wordsCheck lentWords constantCount expandedCount constantsCall expandKeyCall blockChecks encryptBlockCall decryptBlockCall formChecks bookChecks encryptBookBy decryptBookBy encryptBookCall decryptBookCall
 callCases-hold = computed callCases refl

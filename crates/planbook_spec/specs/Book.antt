@@ -9,9 +9,9 @@ use mathlib.Core.List.{List, [], _∷_, _++_}
 use lib.Dec.{eqb, leb, ltb}
 use lib.ListN.{length, getD, take, drop}
 use Rattle.clefia_spec.specs.Words.{choose, fromDigits, xors}
-use Rattle.clefia_spec.specs.Block.{encrypt, decrypt}
+use Rattle.clefia_spec.specs.Block.{encryptUnder, decryptUnder}
 use Rattle.planbook_spec.specs.Outcome.{Outcome, accepted, Check, check, judged}
-use Rattle.planbook_spec.specs.Checks.{outputCheck, keyAndWay}
+use Rattle.planbook_spec.specs.Checks.{outputCheck, lentWords, wordsAndWay}
 
 -- The number that k bytes write, from byte `at` on.
 unfoldable pub number : ℕ → ℕ → List ℕ → ℕ
@@ -161,7 +161,7 @@ recoded mark f book = mark ∷ take 3 (drop 1 book) ++ (take (24 * sheetCount bo
 abbrev pub formAndRecords : ℕ → (List ℕ → List ℕ → List ℕ) → List ℕ → List Check
 formAndRecords mark f book = formChecks mark book ++ (recordsCheck f book ∷ [])
 
--- The checks of a call on a whole book: some list cs about key and way, then 4, and 5 to 11.
+-- The checks of a call on a whole book: some list cs about words and way, then 4, and 5 to 11.
 unfoldable pub bookChecks : List Check → ℕ → (List ℕ → List ℕ → List ℕ) → List ℕ → List ℕ → List Check
 bookChecks cs mark f book out = cs ++ (outputCheck (length book) out ∷ formAndRecords mark f book)
 
@@ -174,18 +174,18 @@ unfoldable pub decryptBookBy : List Check → (List ℕ → List ℕ) → List �
 decryptBookBy cs D book out =
     judged (bookChecks cs 2 (decryptBody D) book out) (accepted (recordCount (contents book)) (recoded 1 (decryptBody D) book))
 
--- The book that a clear book must become when it is sealed under a key, made from the two alone: no way enters. In each sheet the first record, added to
--- the iv, is encrypted under the key, and each later record likewise, added to the encrypted record before it.
-unfoldable pub encryptedBook : List ℕ → List ℕ → List ℕ
-encryptedBook key book = recoded 2 (encryptBody (encrypt key)) book
+-- The book that a clear book must become when it is sealed by E, the cipher under given words or under a key; made from the two alone: no way enters. In each
+-- sheet the first record, added to the iv, is encrypted by E, and each later record likewise, added to the encrypted record before it.
+unfoldable pub encryptedBook : (List ℕ → List ℕ) → List ℕ → List ℕ
+encryptedBook E book = recoded 2 (encryptBody E) book
 
 -- The inverse (opening).
-unfoldable pub decryptedBook : List ℕ → List ℕ → List ℕ
-decryptedBook key book = recoded 1 (decryptBody (decrypt key)) book
+unfoldable pub decryptedBook : (List ℕ → List ℕ) → List ℕ → List ℕ
+decryptedBook D book = recoded 1 (decryptBody D) book
 
--- A book sealed and opened under a key: checks 1, 2, 4, 5 to 10, 11; then R, and the book.
+-- A book sealed and opened under words: checks 14, 2, 4, 5 to 10, 11; then R, and the book.
 unfoldable pub encryptBookCall : List ℕ → ℕ → List ℕ → List ℕ → Outcome
-encryptBookCall key way book out = encryptBookBy (keyAndWay key way) (encrypt key) book out
+encryptBookCall words way book out = encryptBookBy (wordsAndWay words way) (encryptUnder (lentWords words)) book out
 
 unfoldable pub decryptBookCall : List ℕ → ℕ → List ℕ → List ℕ → Outcome
-decryptBookCall key way book out = decryptBookBy (keyAndWay key way) (decrypt key) book out
+decryptBookCall words way book out = decryptBookBy (wordsAndWay words way) (decryptUnder (lentWords words)) book out

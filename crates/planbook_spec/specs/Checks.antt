@@ -1,15 +1,15 @@
--- Checks 1 to 4, and what the calls for constants, expanded keys and single blocks answer. Numbers are compared whole, of whatever size.
+-- Checks 1 to 4 and 14, and what the calls for constants, expanded keys and single blocks answer. Numbers are compared whole, of whatever size.
 -- The way (document 01's term: 1 by byte tables, 2 by word tables, 3 worked out from the rules) stands in check 2 and nowhere else: no result depends
 -- on it. Where a call has an argument `out`, it is the lent output at entry; of its bytes only the number matters.
-use Prim.Native.Nat.{ℕ, _*_}
+use Prim.Native.Nat.{ℕ, _*_, _/_}
 use mathlib.Core.Bool.{_||_}
 use mathlib.Core.List.{List, [], _∷_, _++_}
 use lib.Dec.{eqb}
 use lib.ListN.{length}
-use Rattle.clefia_spec.specs.Words.{bytesOf, byKeyLength}
+use Rattle.clefia_spec.specs.Words.{bytesOf, wordsOf, byKeyLength}
 use Rattle.clefia_spec.specs.Constants.{constants}
 use Rattle.clefia_spec.specs.KeySchedule.{expandKey}
-use Rattle.clefia_spec.specs.Block.{encrypt, decrypt}
+use Rattle.clefia_spec.specs.Block.{encryptUnder, decryptUnder}
 use Rattle.planbook_spec.specs.Outcome.{Outcome, accepted, Check, check, judged}
 
 -- Check 1: a key has 16, 24 or 32 bytes.
@@ -28,9 +28,20 @@ blockCheck block = check 3 (eqb (length block) 16)
 unfoldable pub outputCheck : ℕ → List ℕ → Check
 outputCheck n out = check 4 (eqb (length out) n)
 
--- Checks 1 and 2, with which every call that takes a key begins.
+-- Check 14: expanded words, lent as bytes, four to a word, are 40, 48 or 56. Nothing is asked of them but their count: words that no key gives are permitted.
+unfoldable pub wordsCheck : ℕ → Check
+wordsCheck byteCount = check 14 (eqb byteCount 160 || eqb byteCount 192 || eqb byteCount 224)
+
+-- The words that such bytes write, the highest byte first.
+unfoldable pub lentWords : List ℕ → List ℕ
+lentWords words = wordsOf (length words / 4) words
+
+-- Checks 1 and 2, with which the call that takes a key begins; and 14 and 2, with which every call that takes words begins.
 abbrev pub keyAndWay : List ℕ → ℕ → List Check
 keyAndWay key way = keyCheck (length key) ∷ wayCheck way ∷ []
+
+abbrev pub wordsAndWay : List ℕ → ℕ → List Check
+wordsAndWay words way = wordsCheck (length words) ∷ wayCheck way ∷ []
 
 -- How many words the constants and the expanded key of a key length are. In a lent output each word is four bytes, highest first.
 unfoldable pub constantCount : ℕ → ℕ
@@ -51,13 +62,13 @@ expandKeyCall key way out =
     judged (keyAndWay key way ++ (outputCheck (4 * expandedCount (length key)) out ∷ []))
     (accepted (expandedCount (length key)) (bytesOf (expandKey key)))
 
--- The checks of a call that encrypts or decrypts one block: some list cs about key and way, then 3, 4.
+-- The checks of a call that encrypts or decrypts one block: some list cs about words and way, then 3, 4.
 unfoldable pub blockChecks : List Check → List ℕ → List ℕ → List Check
 blockChecks cs block out = cs ++ (blockCheck block ∷ outputCheck 16 out ∷ [])
 
--- One block encrypted (document 01's term: sealed) and decrypted (opened): the count is 1.
+-- One block encrypted (document 01's term: sealed) and decrypted (opened) under words: checks 14, 2, 3, 4; the count is 1.
 unfoldable pub encryptBlockCall : List ℕ → ℕ → List ℕ → List ℕ → Outcome
-encryptBlockCall key way block out = judged (blockChecks (keyAndWay key way) block out) (accepted 1 (encrypt key block))
+encryptBlockCall words way block out = judged (blockChecks (wordsAndWay words way) block out) (accepted 1 (encryptUnder (lentWords words) block))
 
 unfoldable pub decryptBlockCall : List ℕ → ℕ → List ℕ → List ℕ → Outcome
-decryptBlockCall key way block out = judged (blockChecks (keyAndWay key way) block out) (accepted 1 (decrypt key block))
+decryptBlockCall words way block out = judged (blockChecks (wordsAndWay words way) block out) (accepted 1 (decryptUnder (lentWords words) block))

@@ -11,12 +11,12 @@ use Rattle.clefia_spec.specs.Network.{feistel, rotateBranches, rounds}
 use Rattle.clefia_spec.specs.KeySchedule.{bitRange, doubleSwapBits, doubleSwap}
 use Rattle.clefia_spec.specs.Cases.{Case, _gives_, AllHold, allSame, computed}
 use Rattle.planbook_spec.specs.Outcome.{Outcome, answer, after, judged}
-use Rattle.planbook_spec.specs.Checks.{keyCheck, wayCheck, outputCheck}
+use Rattle.planbook_spec.specs.Checks.{wayCheck, outputCheck, wordsCheck}
 use Rattle.planbook_spec.specs.Book.{number, pieces, entriesHold, recordCount, formChecks, eachBody, sheetsHold, recordsCheck, recoded, bookChecks, encryptBookBy, encryptBookCall}
 
--- The empty book, sealed by way 1 under a key of 16 zero bytes.
+-- The empty book, sealed by way 1. It has no record, so the words do not matter: 40 of them, all zero.
 abbrev pub emptyEncrypted : Outcome
-emptyEncrypted = encryptBookCall (replicate 16 0) 1 (0x01 ∷ 0x00 ∷ 0x00 ∷ 0x00 ∷ []) (replicate 4 0)
+emptyEncrypted = encryptBookCall (replicate 160 0) 1 (0x01 ∷ 0x00 ∷ 0x00 ∷ 0x00 ∷ []) (replicate 4 0)
 
 pub markedCases : List Case
 markedCases =
@@ -38,5 +38,5 @@ markedCases =
     ∷ []
 
 pub markedCases-hold : AllHold markedCases
-unfolding markedCases allSame complement rotate fromDigits toDigits digitsOf numbersOf divideByZ evenConstant oddConstant constantsFrom firstT constants double addProduct product squares inverse ss0 ss1 ss2 ss3 s0 s1 bitOf sumOfBits affine fRows gRows m0 m1 entry rowTimes matrixTimes substitute f0 f1 feistel rotateBranches rounds bitRange doubleSwapBits doubleSwap answer after judged keyCheck wayCheck outputCheck number pieces entriesHold recordCount formChecks eachBody sheetsHold recordsCheck recoded bookChecks encryptBookBy encryptBookCall
+unfolding markedCases allSame complement rotate fromDigits toDigits digitsOf numbersOf divideByZ evenConstant oddConstant constantsFrom firstT constants double addProduct product squares inverse ss0 ss1 ss2 ss3 s0 s1 bitOf sumOfBits affine fRows gRows m0 m1 entry rowTimes matrixTimes substitute f0 f1 feistel rotateBranches rounds bitRange doubleSwapBits doubleSwap answer after judged wayCheck outputCheck wordsCheck number pieces entriesHold recordCount formChecks eachBody sheetsHold recordsCheck recoded bookChecks encryptBookBy encryptBookCall
 markedCases-hold = computed markedCases refl

@@ -5,9 +5,9 @@ use mathlib.Core.List.{List, [], _∷_, _++_}
 use lib.Dec.{leb}
 use lib.ListN.{length, take}
 use Rattle.clefia_spec.specs.Words.{toDigits, xors}
-use Rattle.clefia_spec.specs.Block.{encrypt}
+use Rattle.clefia_spec.specs.Block.{encryptUnder}
 use Rattle.planbook_spec.specs.Outcome.{Outcome, accepted, Check, check, judged}
-use Rattle.planbook_spec.specs.Checks.{blockCheck, outputCheck, keyAndWay}
+use Rattle.planbook_spec.specs.Checks.{blockCheck, outputCheck, lentWords, wordsAndWay}
 use Rattle.planbook_spec.specs.Book.{number}
 
 -- Counter block i of a note, from 0 on, where `counter` is the block that the caller gives. Its first twelve bytes stay. The last four count blocks: the
@@ -33,7 +33,7 @@ ctr E counter note = xors (keystream E counter 0 (blockCount note)) note
 unfoldable pub noteCheck : List ℕ → Check
 noteCheck note = check 12 (leb (length note) 16384)
 
--- The checks of the call: some list cs about key and way, then 3 of the counter block, 4 and 12.
+-- The checks of the call: some list cs about words and way, then 3 of the counter block, 4 and 12.
 unfoldable pub noteChecks : List Check → List ℕ → List ℕ → List ℕ → List Check
 noteChecks cs counter note out = cs ++ (blockCheck counter ∷ outputCheck (length note) out ∷ noteCheck note ∷ [])
 
@@ -41,6 +41,6 @@ noteChecks cs counter note out = cs ++ (blockCheck counter ∷ outputCheck (leng
 unfoldable pub cryptNoteBy : List Check → (List ℕ → List ℕ) → List ℕ → List ℕ → List ℕ → Outcome
 cryptNoteBy cs E counter note out = judged (noteChecks cs counter note out) (accepted (length note) (ctr E counter note))
 
--- Under a key: checks 1, 2, 3, 4, 12.
+-- Under words: checks 14, 2, 3, 4, 12.
 unfoldable pub cryptNoteCall : List ℕ → ℕ → List ℕ → List ℕ → List ℕ → Outcome
-cryptNoteCall key way counter note out = cryptNoteBy (keyAndWay key way) (encrypt key) counter note out
+cryptNoteCall words way counter note out = cryptNoteBy (wordsAndWay words way) (encryptUnder (lentWords words)) counter note out

@@ -7,7 +7,7 @@ use lib.ListN.{take, replicate}
 use Rattle.clefia_spec.specs.Words.{fromDigits, toDigits, xors}
 use Rattle.clefia_spec.specs.Cases.{Case, _gives_, AllHold, allSame, computed}
 use Rattle.planbook_spec.specs.Outcome.{answer, after, judged}
-use Rattle.planbook_spec.specs.Checks.{keyCheck, wayCheck, blockCheck, outputCheck}
+use Rattle.planbook_spec.specs.Checks.{wayCheck, blockCheck, outputCheck, wordsCheck}
 use Rattle.planbook_spec.specs.Book.{number}
 use Rattle.planbook_spec.specs.Note.{counterBlock, keystream, blockCount, ctr, noteCheck, noteChecks, cryptNoteBy, cryptNoteCall}
 use Rattle.planbook_spec.specs.AnswerCases.{toyEncrypt, rising}
@@ -66,21 +66,21 @@ pub noteCases-hold : AllHold noteCases
 unfolding noteCases rising allSame fromDigits toDigits xors answer after judged blockCheck outputCheck number counterBlock keystream blockCount ctr noteCheck noteChecks cryptNoteBy
 noteCases-hold = computed noteCases refl
 
--- The answer under a key of k bytes, by a way, with a counter block of c bytes, a note of n and an output of m.
+-- The answer under words of w bytes, by a way, with a counter block of c bytes, a note of n and an output of m.
 abbrev pub noted : ℕ → ℕ → ℕ → ℕ → ℕ → ℕ
-noted k way c n m = answer (cryptNoteCall (replicate k 0) way (replicate c 0) (replicate n 0) (replicate m 0))
+noted w way c n m = answer (cryptNoteCall (replicate w 0) way (replicate c 0) (replicate n 0) (replicate m 0))
 
--- Checks 1, 2, 3, 4 and 12: each pair that can fail at once, the edges of each, and the counts.
+-- Checks 14, 2, 3, 4 and 12: each pair that can fail at once, the edges of each, and the counts.
 pub noteCheckCases : List Case
 noteCheckCases =
-    (noted 15 4 16 1 1 ∷ noted 17 1 15 1 1 ∷ noted 33 1 16 1 2 ∷ noted 0 1 16 16385 16385 ∷ [] gives 1 * 2 ^ 32 ∷ 1 * 2 ^ 32 ∷ 1 * 2 ^ 32 ∷ 1 * 2 ^ 32 ∷ [])
-    ∷ (noted 16 0 15 1 1 ∷ noted 24 4 16 1 2 ∷ noted 32 257 16 16385 16385 ∷ [] gives 2 * 2 ^ 32 ∷ 2 * 2 ^ 32 ∷ 2 * 2 ^ 32 ∷ [])
-    ∷ (noted 16 1 15 1 2 ∷ noted 16 2 17 16385 16385 ∷ noted 16 3 0 1 1 ∷ [] gives 3 * 2 ^ 32 ∷ 3 * 2 ^ 32 ∷ 3 * 2 ^ 32 ∷ [])
-    ∷ (noted 16 1 16 1 0 ∷ noted 16 2 16 1 2 ∷ noted 16 3 16 16385 16384 ∷ noted 16 3 16 16384 16385 ∷ [] gives 4 * 2 ^ 32 ∷ 4 * 2 ^ 32 ∷ 4 * 2 ^ 32 ∷ 4 * 2 ^ 32 ∷ [])
-    ∷ (noted 16 1 16 16385 16385 ∷ noted 24 2 16 16385 16385 ∷ noted 32 3 16 40000 40000 ∷ [] gives 12 * 2 ^ 32 ∷ 12 * 2 ^ 32 ∷ 12 * 2 ^ 32 ∷ [])
-    ∷ (noted 16 1 16 0 0 ∷ noted 24 2 16 17 17 ∷ noted 32 3 16 16384 16384 ∷ [] gives 0 ∷ 17 ∷ 16384 ∷ [])
+    (noted 159 4 16 1 1 ∷ noted 161 1 15 1 1 ∷ noted 225 1 16 1 2 ∷ noted 0 1 16 16385 16385 ∷ noted 16 1 16 1 1 ∷ [] gives replicate 5 (14 * 2 ^ 32))
+    ∷ (noted 160 0 15 1 1 ∷ noted 192 4 16 1 2 ∷ noted 224 257 16 16385 16385 ∷ [] gives replicate 3 (2 * 2 ^ 32))
+    ∷ (noted 160 1 15 1 2 ∷ noted 160 2 17 16385 16385 ∷ noted 160 3 0 1 1 ∷ [] gives replicate 3 (3 * 2 ^ 32))
+    ∷ (noted 160 1 16 1 0 ∷ noted 160 2 16 1 2 ∷ noted 160 3 16 16385 16384 ∷ noted 160 3 16 16384 16385 ∷ [] gives replicate 4 (4 * 2 ^ 32))
+    ∷ (noted 160 1 16 16385 16385 ∷ noted 192 2 16 16385 16385 ∷ noted 224 3 16 40000 40000 ∷ [] gives replicate 3 (12 * 2 ^ 32))
+    ∷ (noted 160 1 16 0 0 ∷ noted 192 2 16 17 17 ∷ noted 224 3 16 16384 16384 ∷ [] gives 0 ∷ 17 ∷ 16384 ∷ [])
     ∷ []
 
 pub noteCheckCases-hold : AllHold noteCheckCases
-unfolding noteCheckCases allSame answer judged keyCheck wayCheck blockCheck outputCheck noteCheck noteChecks cryptNoteBy cryptNoteCall
+unfolding noteCheckCases allSame answer judged wayCheck blockCheck outputCheck wordsCheck noteCheck noteChecks cryptNoteBy cryptNoteCall
 noteCheckCases-hold = computed noteCheckCases refl

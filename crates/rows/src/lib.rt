@@ -94,6 +94,18 @@ pub fn store_all(dst: &mut [u8], src: &[u32])
     }
 }
 
+// As many words as the row has places, read from four times as many bytes.
+pub fn load_all(dst: &mut [u32], src: &[u8])
+    requires { ⌜ length (now src) ≡ 4 * length (now dst) ⌝ }
+    ensures { λ r. ⌜ now (dst .exit) ≡ wordsOf (length (now (dst .entry))) (now (src .entry)) ⌝ }
+{
+    let mut i = 0;
+    while i < dst.len() {
+        dst[i] = word(src, 4 * i);
+        i += 1;
+    }
+}
+
 // Four words put at `at` of a row.
 pub fn put_four(dst: &mut [u32], at: usize, s: [u32; 4])
     requires { ⌜ at + 4 ≤ length (now dst) ⌝ }

@@ -71,7 +71,7 @@ fn tell(command: Command, script: &[u8], state: State, book: &[u8], kept: &[u8],
             let b = within(state.length, book);
             say_words(&book[..b]);
         }
-        27 => say_unknown(script, command.from, command.end),
+        30 => say_unknown(script, command.from, command.end),
         _ => (),
     }
 }
@@ -80,6 +80,13 @@ fn tell(command: Command, script: &[u8], state: State, book: &[u8], kept: &[u8],
 pub fn make_counter(command: Command, counter: &mut [u8]) {
     if command.number == 24 {
         write_counter(counter, command.second, command.third);
+    }
+}
+
+// Command 29, which changes bits of the words.
+pub fn damage(command: Command, words: &mut [u8]) {
+    if command.number == 29 {
+        flip(words, command.first, (command.second % 256) as u8);
     }
 }
 

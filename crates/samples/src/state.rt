@@ -5,6 +5,7 @@ ghost use Prim.Native.Nat.{_<_};
 
 pub struct State {
     pub key: usize,
+    pub words: usize,
     pub way: usize,
     pub size: usize,
     pub length: usize,
@@ -23,6 +24,7 @@ impl State {
     pub fn new() -> State {
         State {
             key: 0,
+            words: 0,
             way: 0,
             size: 0,
             length: 0,
@@ -65,6 +67,8 @@ impl State {
             22 => return self.again(),
             24 => self.counter = command.first,
             26 => self.sheet = command.first,
+            27 => self.words = command.first,
+            28 => self.words = command.first,
             _ => (),
         }
         self

@@ -1,15 +1,13 @@
-// What each call that takes a key does, under tables that are lent.
-ghost use mathlib.Core.Path.{_≡_};
+// What each call that takes words does, under tables that are lent.
 ghost use lib.ListN.{length};
-ghost use Rattle.clefia_spec.specs.Words.{byKeyLength, KeyLength};
+ghost use Prim.Native.Nat.{_≤_};
 ghost use Rattle.ffunction.specs.Tables.{Lent};
 ghost use Rattle.answer.specs.Answer.{Given};
-ghost use Rattle.tasks.specs.Tasks.{performed};
+ghost use Rattle.tasks.specs.Tasks.{under};
 use answer::Answer;
 
-// What a call does with its key once checks 1 and 2 are passed.
+// What a call does under its words once checks 14 and 2 are passed.
 pub enum Task {
-    ExpandKey,
     EncryptBlock,
     DecryptBlock,
     EncryptBook,
@@ -17,33 +15,30 @@ pub enum Task {
     CryptNote,
 }
 
-// The key expanded into w, and the task done under it. `iv` is the block that a mode of operation starts from, where it is lent beside the input: the
-// counter block of a note. A book has its own in its contents.
+// The task done under the words w. `iv` is the block that a mode of operation starts from, where it is lent beside the input: the counter block of a
+// note. A book has its own in its contents.
 pub fn perform(
     task: Task,
     words: &[[u32; 256]],
     bytes: &[[u8; 256]],
-    key: &[u8],
-    w: &mut [u32],
+    w: &[u32],
     iv: &[u8],
     src: &[u8],
     out: &mut [u8],
 ) -> Answer
     requires { ⌜ Lent (now words) (now bytes) ⌝ }
-    requires { ⌜ KeyLength (length (now key)) ⌝ }
-    requires { ⌜ length (now w) ≡ byKeyLength (length (now key)) 40 48 56 ⌝ }
-    ensures { λ r. ⌜ Given (performed task (now (key .entry)) (now (iv .entry)) (now (src .entry)) (now (out .entry))) (now (out .entry)) r (now (out .exit)) ⌝ }
+    requires { ⌜ 4 ≤ length (now w) ⌝ }
+    ensures { λ r. ⌜ Given (under task (now (w .entry)) (now (iv .entry)) (now (src .entry)) (now (out .entry))) (now (out .entry)) r (now (out .exit)) ⌝ }
 {
     // Lent on as parts, the slices stay in registers (DECISIONS).
     let ws = &words[..];
     let bs = &bytes[..];
-    schedule::expand_key(ws, bs, key, w);
+    let k = &w[..];
     match task {
-        Task::ExpandKey => checks::write_words(w, out),
-        Task::EncryptBlock => checks::code_block(false, ws, bs, w, src, out),
-        Task::DecryptBlock => checks::code_block(true, ws, bs, w, src, out),
-        Task::EncryptBook => book::encrypt_book(ws, bs, w, src, out),
-        Task::DecryptBook => book::decrypt_book(ws, bs, w, src, out),
-        Task::CryptNote => note::crypt_note(ws, bs, w, iv, src, out),
+        Task::EncryptBlock => checks::code_block(false, ws, bs, k, src, out),
+        Task::DecryptBlock => checks::code_block(true, ws, bs, k, src, out),
+        Task::EncryptBook => book::encrypt_book(ws, bs, k, src, out),
+        Task::DecryptBook => book::decrypt_book(ws, bs, k, src, out),
+        Task::CryptNote => note::crypt_note(ws, bs, k, iv, src, out),
     }
 }

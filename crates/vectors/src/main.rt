@@ -22,14 +22,14 @@ fn report(name: &[u8], answer: u64, output: &[u8]) {
     say_words(output);
 }
 
-// The block encrypted, and decrypted again, by one way.
-fn blocks(key: &[u8], way: u64) {
+// The block encrypted, and decrypted again, under the words and by one way.
+fn blocks(words: &[u8], way: u64) {
     let plaintext = [0, 1, 2, 3, 4, 5, 6, 7, 8, 9, 10, 11, 12, 13, 14, 15];
     let mut ciphertext = [0u8; 16];
-    let encrypted = planbook_encrypt_block(key, way, &plaintext, &mut ciphertext);
+    let encrypted = planbook_encrypt_block(words, way, &plaintext, &mut ciphertext);
     report(b"ciphertext", encrypted, &ciphertext);
     let mut decrypted = [0u8; 16];
-    let answer = planbook_decrypt_block(key, way, &ciphertext, &mut decrypted);
+    let answer = planbook_decrypt_block(words, way, &ciphertext, &mut decrypted);
     report(b"decrypted block", answer, &decrypted);
 }
 
@@ -42,14 +42,14 @@ fn constants(key_length: u64, output: &mut [u8]) {
     report(b"constants", answer, output);
 }
 
-// A key expanded, and a block under it, by one way. The output is lent zeroed each time, so that no way can pass by what another wrote.
+// A key expanded, and a block under its words, by one way. The output is lent zeroed each time, so that no way can pass by what another wrote.
 fn by_way(key: &[u8], way: u64, output: &mut [u8]) {
     say(b"way ");
     say_number(way);
     say(b"\n");
     let answer = planbook_expand_key(key, way, output);
     report(b"expanded key, WK and then RK", answer, output);
-    blocks(key, way);
+    blocks(output, way);
 }
 
 fn main() {

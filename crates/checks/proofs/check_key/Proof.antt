@@ -1,34 +1,27 @@
 -- `checks::check_key` meets its contract: check 1, and then check 2.
-use mathlib.Core.Path.{sym, ap, _∙_}
+use mathlib.Core.Path.{ap, _∙_}
 use borrow.Author.Needs.{needs}
-use Rattle.answer.specs.Answer.{answerOf}
 use Rattle.answer.specs.declared.Answer.the-variants.{Accepted}
-use Rattle.planbook_spec.specs.OutcomeLaws.{none, judged-pass, judged-true, judged-false}
 use Rattle.planbook_spec.specs.Checks.{keyCheck, wayCheck}
-use Rattle.checks.specs.Laws.{failed, passed, expanded-size}
+use Rattle.checks.specs.Laws.{passed, first-fails, second-fails, both-pass, expanded-size}
 use Rattle.checks.proofs.check_key.Statement.{statement}
 use Rattle.checks.proofs.check_key.Tie as tie
 
 returns : tie.Need-returns
 unfolding keyCheck
-returns c = sym (ap answerOf (judged-false (failed (c .before .one-of .ensures) (c .if1 .taken)) 1 _ _))
+returns c = first-fails (c .before .one-of .ensures) (c .if1 .taken) 1 _ _
 
 returns-2 : tie.Need-returns-2
 unfolding keyCheck wayCheck
 returns-2 c =
-    let e : tie.Else1 = c .before .before in
-    sym
-    (ap answerOf
-    (judged-true (passed (e .before .one-of .ensures) (e .if1 .left)) 1 _ _
-    ∙ judged-false (failed (c .before .one-of2 .ensures) (c .if2 .taken)) 2 _ _))
+    let e : tie.Else1 = c .before .before in second-fails (e .before .one-of .ensures) (e .if1 .left) (c .before .one-of2 .ensures) 1 2 (c .if2 .taken) _
 
 returns-3 : tie.Need-returns-3
 unfolding keyCheck wayCheck
 returns-3 c =
     let e : tie.Else1 = c .before .before in
-    let p = passed (e .before .one-of .ensures) (e .if1 .left) in
-    ap Accepted (expanded-size _ p)
-    ∙ sym (ap answerOf (judged-true p 1 _ _ ∙ judged-true (passed (c .before .one-of2 .ensures) (c .if2 .left)) 2 _ _ ∙ judged-pass none _))
+    ap Accepted (expanded-size _ (passed (e .before .one-of .ensures) (e .if1 .left)))
+    ∙ both-pass (e .before .one-of .ensures) (e .if1 .left) (c .before .one-of2 .ensures) 1 2 (c .if2 .left) _
 
 pub check-key-spec : {M : Type 1} → statement M
 check-key-spec =

@@ -1,0 +1,22 @@
+-- `expand_key_call::write_by` meets its contract: what is lent is a kind of tables, or none.
+use borrow.Author.Needs.{needs}
+use Rattle.ffunction.specs.Tables.{lent-words, lent-bytes, lent-none}
+use Rattle.expand_key_call.proofs.write_by.Statement.{statement}
+use Rattle.expand_key_call.proofs.write_by.Tie as tie
+
+write-expanded-requires : tie.Need-write-expanded-requires
+write-expanded-requires c κs = (lent-words (c .before .before .before .before .all .ensures), search needs)
+
+write-expanded-requires-2 : tie.Need-write-expanded-requires-2
+write-expanded-requires-2 c κs = (lent-bytes (c .before .before .before .byte-tables .ensures), search needs)
+
+write-expanded-requires-3 : tie.Need-write-expanded-requires-3
+write-expanded-requires-3 c κs = (lent-none, search needs)
+
+pub write-by-spec : {M : Type 1} → statement M
+write-by-spec =
+    tie.close
+    (tie.spec (λ c κs. search needs) (λ c. search needs) (λ c. search needs) write-expanded-requires (λ c. search needs) (λ c. search needs)
+    (λ c. search needs) (λ c. search needs) (λ c κs. search needs) (λ c. search needs) write-expanded-requires-2 (λ c. search needs)
+    (λ c. search needs) (λ c. search needs) (λ c. search needs) (λ c. search needs) write-expanded-requires-3 (λ c. search needs) (λ c. search needs)
+    (λ c. search needs))
