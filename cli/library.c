@@ -47,7 +47,7 @@ uint32_t check_clear_book(struct bytes book)
     return check_by(planbook_encrypt_book, book);
 }
 
-/* Check 11 comes last and is about the key here: a book that gets so far has passed all that can be seen without one. */
+/* Check 11 comes last and is about the words here: a book that gets so far has passed all that can be seen without the right ones. */
 uint32_t check_sealed_book(struct bytes book)
 {
     uint32_t check = check_by(planbook_decrypt_book, book);

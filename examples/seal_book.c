@@ -6,17 +6,24 @@ static int seal(const uint8_t *words, size_t words_len, const char *from, const 
 {
     static uint8_t clear[PLANBOOK_MAX_BOOK_BYTES + 1], sealed[sizeof clear];
     FILE *file = fopen(from, "rb");
-    size_t len = file != NULL ? fread(clear, 1, sizeof clear, file) : 0;
-    if (file == NULL || ferror(file) || fclose(file) != 0)
+    if (file == NULL)
+        return perror(from), 2;
+    size_t len = fread(clear, 1, sizeof clear, file);
+    int bad = ferror(file);
+    if (fclose(file) != 0 || bad)
         return perror(from), 2;
     uint64_t answer = planbook_encrypt_book(words, words_len, PLANBOOK_WAY_WORD_TABLES, clear, len, sealed, len);
     uint32_t check = planbook_check(answer);
     planbook_wipe_stack(); /* every call leaves the words there */
+    planbook_wipe(clear, len);
     if (check != PLANBOOK_ACCEPTED)
         return fprintf(stderr, "%s: refused, check %u: %s\n", from, (unsigned)check, planbook_check_sentence(check)), 1;
-    file = fopen(to, "wbx"); /* x: an existing file is not replaced */
-    if (file == NULL || fwrite(sealed, 1, len, file) != len || fclose(file) != 0)
+    file = fopen(to, "wbx"); /* x, of C11: an existing file is not replaced */
+    if (file == NULL)
         return perror(to), 2;
+    bad = fwrite(sealed, 1, len, file) != len;
+    if (fclose(file) != 0 || bad)
+        return perror(to), remove(to), 2; /* no part of a book is left */
     return printf("%s: records sealed: %u\n", to, (unsigned)planbook_count(answer)) < 0 ? 2 : 0;
 }
 

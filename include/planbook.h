@@ -35,9 +35,10 @@
  * - Any words of a permitted length are accepted, whether a key gives them or none. So no call notices that words are
  *   damaged, or are those of another key. What is sealed under damaged words opens under the same damaged words; under the
  *   key's own it mostly meets check 11, but may open as another plan: a wrong bit in the first word or in the fifth (bytes
- *   0 to 3 and 16 to 19) changes the entry of every record and nothing else, and no check sees that. A note gives other
- *   bytes. Where words are stored, store a digest of them, or expand the key again and compare. Before a clear plan is
- *   erased, open the sealed book under words expanded anew, and compare it with the clear one.
+ *   0 to 3 and 16 to 19) changes the entry of every record and nothing else, and one in the first byte of the second word
+ *   (byte 4) the column. No check sees that, unless an entry becomes 0 or a plot leaves its rule. A note gives other bytes.
+ *   Where words are stored, store a digest of them, or expand the key again and compare. Before a clear plan is erased, open
+ *   the sealed book under words expanded anew, and compare it with the clear one.
  *
  * ANSWERS
  *

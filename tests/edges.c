@@ -496,9 +496,9 @@ static unsigned expect_key_lengths(void)
     size_t count = sizeof refused / sizeof refused[0];
     call_input in = {CALL_CONSTANTS, NULL, 16, 0, NULL, 0, 0};
     for (size_t i = 0; i < count; i++)
-        for (size_t words = 60; words <= 92; words += words == 60 ? 24 : 8) {
+        for (size_t constants = 60; constants <= 92; constants += constants == 60 ? 24 : 8) {
             in.secret_len = refused[i];
-            in.out_len = 4 * words;
+            in.out_len = 4 * constants;
             compare_ways(&in, refusal(1), "key length as a 64-bit number");
         }
     return (unsigned)count;

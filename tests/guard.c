@@ -293,6 +293,16 @@ static void null_pointers(void)
 
 /* Lengths of 2^32 and a permitted rest, in memory that is there: a length cut
  * to 32 bits would be accepted. */
+/* Words of a permitted length and 2^32 bytes more. */
+static void expect_wide_words(call_input in, uint8_t *m, size_t wide)
+{
+    for (size_t len = 160; len <= 224; len += 32) {
+        in.secret = m;
+        in.secret_len = wide + len;
+        expect(&in, m, 14, "wide words");
+    }
+}
+
 static void wide_lengths(void)
 {
     const size_t wide = (size_t)1 << 32;
@@ -309,21 +319,18 @@ static void wide_lengths(void)
         expect(&(call_input){CALL_EXPAND_KEY, m, wide + 16, way, NULL, 0, 160}, m, 1, "wide key");
         expect(&(call_input){CALL_EXPAND_KEY, key, 16, way, NULL, 0, wide + 160}, m, 4, "wide output");
         for (int kind = CALL_ENCRYPT_BLOCK; kind <= CALL_DECRYPT_BLOCK; kind++) {
-            for (size_t len = 160; len <= 224; len += 32)
-                expect(&(call_input){(call_kind)kind, m, wide + len, way, block, 16, 16}, m, 14, "wide words");
+            expect_wide_words((call_input){(call_kind)kind, m, 0, way, block, 16, 16}, m, wide);
             expect(&(call_input){(call_kind)kind, words, 160, way, m, wide + 16, 16}, m, 3, "wide block");
             expect(&(call_input){(call_kind)kind, words, 160, way, block, 16, wide + 16}, m, 4, "wide output");
         }
         for (int kind = CALL_ENCRYPT_BOOK; kind <= CALL_DECRYPT_BOOK; kind++) {
             book[0] = kind == CALL_ENCRYPT_BOOK ? CLEAR_BOOK : SEALED_BOOK;
-            for (size_t len = 160; len <= 224; len += 32)
-                expect(&(call_input){(call_kind)kind, m, wide + len, way, book, 4, 4}, m, 14, "wide words");
+            expect_wide_words((call_input){(call_kind)kind, m, 0, way, book, 4, 4}, m, wide);
             expect(&(call_input){(call_kind)kind, words, 160, way, book, 4, wide + 4}, m, 4, "wide output");
             expect(&(call_input){(call_kind)kind, words, 160, way, m, wide + 4, 4}, m, 4, "wide book");
             expect(&(call_input){(call_kind)kind, words, 160, way, m, wide + 4, wide + 4}, m, 5, "wide book and output");
         }
-        for (size_t len = 160; len <= 224; len += 32)
-            expect(&(call_input){CALL_CRYPT_NOTE, m, wide + len, way, block, 16, 16, block, 16}, m, 14, "wide words");
+        expect_wide_words((call_input){CALL_CRYPT_NOTE, m, 0, way, block, 16, 16, block, 16}, m, wide);
         expect(&(call_input){CALL_CRYPT_NOTE, words, 160, way, block, 16, 16, m, wide + 16}, m, 3, "wide counter block");
         expect(&(call_input){CALL_CRYPT_NOTE, words, 160, way, block, 16, wide + 16, block, 16}, m, 4, "wide output");
         expect(&(call_input){CALL_CRYPT_NOTE, words, 160, way, m, wide + 16, 16, block, 16}, m, 4, "wide note");

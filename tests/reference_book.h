@@ -118,7 +118,7 @@ int call_is_long(call_kind kind); /* it is a book or a note */
 int call_has_input(call_kind kind);
 
 /* Where a check stands in a call's order: at its number; but 14 stands where 1
- * does in the calls with a key, and 4 comes last in a page, whose length the
+ * does in the call with a key, and 4 comes last in a page, whose length the
  * book says. */
 int check_place(call_kind kind, int check);
 

@@ -2,7 +2,7 @@
  * What a call leaves behind on the stack, and how much of it a call uses. Each call is made on a stack of its own, which is
  * then searched for the words of the key and of what it is expanded to, or the words that were lent, for those of the clear
  * block, record or note, and of the encrypted counter blocks, which open the sealed note: after planbook_wipe_stack there must
- * be none; without it there must be some where there is a key or are words, or this test could not fail.
+ * be none; without it there must be some where a key or words were used, or this test could not fail.
  *
  * And so with planbook_wipe, where a function has the words in a buffer of its own.
  *
@@ -288,7 +288,7 @@ int main(int argc, char **argv)
                 make_call((call_kind)kind, way, key_len);
                 try_call(1, call_has_secret((call_kind)kind));
                 in.out_len--; /* check 4, for a page the last of all */
-                try_call(0, 0);
+                try_call(0, kind == CALL_EXPAND_KEY); /* which has expanded the key by then */
                 if (kind == CALL_DECRYPT_BOOK) { /* check 11, of records that were decrypted */
                     in.out_len++;
                     input[in.input_len - 1] ^= 1;

@@ -100,9 +100,22 @@ static void try_drawn(size_t len)
     }
 }
 
-/* A book that was sealed before a bit of the words was changed. It is refused or opens as another: always, but for an entry that
- * becomes 0, where the bit is of the first whitening key or the first round key, which have to do with entries alone. */
-static void open_under(const uint8_t *words, size_t len, const uint8_t *sealed_book)
+/* The first whitening key and the first round key act on bytes 4 to 7 of a block before all else, which are a record's entry:
+ * where one of their bits was changed, an opened book differs in entries alone. */
+static void expect_other_entries(const call_input *in, size_t changed, const char *what)
+{
+    size_t bodies = HEAD_LENGTH + ENTRY_LENGTH * (size_t)book[3];
+    if (changed >= 4 && (changed < 16 || changed >= 20))
+        return;
+    for (size_t i = 0; i < in->out_len; i++) {
+        size_t at = i < bodies ? 0 : (i - bodies) % RECORD_LENGTH;
+        if (last_output()[i] != book[i] && (at < 4 || at >= 8))
+            fail_call(in, what, "byte %zu is another, though byte %zu of the words was changed", i, changed);
+    }
+}
+
+/* A book that was sealed before a bit of this byte of the words was changed: it is refused, or opens as another. */
+static void open_under(const uint8_t *words, size_t len, const uint8_t *sealed_book, size_t changed)
 {
     static const char what[] = "book sealed before a bit of the words was changed";
     call_input in = job_call(&jobs[1], CALL_DECRYPT_BOOK, words, len, sealed_book);
@@ -111,6 +124,8 @@ static void open_under(const uint8_t *words, size_t len, const uint8_t *sealed_b
         v = compare_call(&in, what);
         if (v.failing == 0 && memcmp(last_output(), book, in.out_len) == 0)
             fail_call(&in, what, "it opens as if no bit was changed");
+        if (v.failing == 0)
+            expect_other_entries(&in, changed, what);
     }
     open_as_others += v.failing == 0;
 }
@@ -131,7 +146,7 @@ static void try_changed_bits(size_t len)
     for (size_t bit = random_below(&random_source, step); bit < bits; bit += step) {
         words[bit / 8] ^= (uint8_t)(0x80 >> bit % 8);
         try_words(words, len, "words of a key with one bit changed");
-        open_under(words, len, sealed_book);
+        open_under(words, len, sealed_book, bit / 8);
         compare_ways(&in, 1, "words of a key with one bit changed");
         if (memcmp(last_output(), before, sizeof before) == 0)
             fail_call(&in, "words of a key with one bit changed", "bit %zu does not count", bit);
@@ -316,6 +331,32 @@ static void check_words_first(void)
     printf("words first: %u calls in which check 14 and others fail\n", calls);
 }
 
+/* What the header says of damaged words, of a book typed out: a wrong bit in the first word shows in the entry, one in the first
+ * byte of the second word in the column, and nothing refuses the book. */
+static void check_unnoticed_damage(void)
+{
+    static const struct {
+        size_t changed, shown; /* a byte of the words, and one of the book */
+        uint8_t bit;
+    } damages[] = {{0, 32, 0x80}, {3, 35, 0x40}, {4, 40, 0x10}, {4, 40, 0x01}};
+    uint8_t clear[44] = {1, 0, 0, 1, 0, 0, 0, 41, 0, 1}, sealed[sizeof clear], words[REFERENCE_MAX_WORDS_LENGTH];
+    memcpy(clear + 28, (uint8_t[]){0, 0, 0, 41, 0, 0, 0, 7, 2, 0, 12, 0, 3}, 13);
+    for (size_t len = 160; len <= 224; len += 32)
+        for (size_t i = 0; i < sizeof damages / sizeof damages[0]; i++) {
+            call_input in = {CALL_DECRYPT_BOOK, words, len, 1, sealed, sizeof sealed, sizeof sealed};
+            make_words(&random_source, words, len);
+            words[damages[i].changed] ^= damages[i].bit;
+            seal_book(words, len, clear, sizeof clear, sealed);
+            words[damages[i].changed] ^= damages[i].bit;
+            compare_ways(&in, 1, "book sealed under damaged words");
+            clear[damages[i].shown] ^= damages[i].bit;
+            if (memcmp(last_output(), clear, sizeof clear) != 0)
+                fail_call(&in, "book sealed under damaged words", "it is not the book with that bit changed");
+            clear[damages[i].shown] ^= damages[i].bit;
+        }
+    printf("damaged words: %zu kinds change an entry or a column and nothing else\n", sizeof damages / sizeof damages[0]);
+}
+
 /* Words at every place in memory, and words that are the input too: only the output must lie apart. */
 static void check_places(void)
 {
@@ -349,5 +390,6 @@ void check_words(void)
     check_equal_books();
     check_words_lengths();
     check_words_first();
+    check_unnoticed_damage();
     check_places();
 }

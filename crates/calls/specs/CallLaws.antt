@@ -18,14 +18,14 @@ use Rattle.tasks.specs.declared.Task.{Task}
 use Rattle.tasks.specs.Tasks.{under, taskCall}
 
 -- What is known of words and a way that passed, with the count n that was answered.
-pub record Worded (words : List ℕ) (way n : ℕ) : Type 0 where
+pub record WordsPassed (words : List ℕ) (way n : ℕ) : Type 0 where
   pub checks : AllPass (wordsAndWay words way)
   pub bytes : length words ≡ 4 * n
   pub least : 4 ≤ n
   pub most : n ≤ 56
 
-pub worded : (words : List ℕ) (way : ℕ) {n : ℕ} → Accepted n ≡ wordsAnswer words way → Worded words way n
-worded words way {n} e =
+pub words-passed : (words : List ℕ) (way : ℕ) {n : ℕ} → Accepted n ≡ wordsAnswer words way → WordsPassed words way n
+words-passed words way {n} e =
     let w : Went (wordsAndWay words way) (length words / 4) n = went (wordsAndWay words way) _ e in
     let s : (length words ≡ 4 * n) × (4 ≤ n) × (n ≤ 56) = rw (w .same) (sizes (words-permitted (w .checks))) in
     record { checks = w .checks; bytes = s .0; least = s .1; most = s .2 }
@@ -35,15 +35,15 @@ worded words way {n} e =
     sizes fortyEight = (refl, lit≤ tt, lit≤ tt)
     sizes fiftySix = (refl, lit≤ tt, lit≤ tt)
 
-pub worded-refused : (task : Task) (words : List ℕ) (way : ℕ) (iv src out : List ℕ) {r : Answer} {c : ℕ} → r ≡ wordsAnswer words way → r ≡ Refused c
+pub task-refused : (task : Task) (words : List ℕ) (way : ℕ) (iv src out : List ℕ) {r : Answer} {c : ℕ} → r ≡ wordsAnswer words way → r ≡ Refused c
     → Given (taskCall task words way iv src out) out r out
 unfolding taskCall
-worded-refused task words way iv src out e h = refused-by (wordsAndWay words way) [] _ _ out e h
+task-refused task words way iv src out e h = refused-by (wordsAndWay words way) [] _ _ out e h
 
-pub worded-passed : (task : Task) {words : List ℕ} {way n : ℕ} (iv src out : List ℕ) {exit : List ℕ} {r : Answer} → Worded words way n
+pub task-passed : (task : Task) {words : List ℕ} {way n : ℕ} (iv src out : List ℕ) {exit : List ℕ} {r : Answer} → WordsPassed words way n
     → Given (under task (lentWords words) iv src out) out r exit → Given (taskCall task words way iv src out) out r exit
 unfolding taskCall
-worded-passed task iv src out k g = given-same (judged-pass (k .checks) _) g
+task-passed task iv src out k g = given-same (judged-pass (k .checks) _) g
 
 -- A task done under words that were read into n places, four bytes to each, is done under the words lent.
 pub given-read : (task : Task) (words : List ℕ) (n : ℕ) {w : List ℕ} (iv src out : List ℕ) {exit : List ℕ} {r : Answer} → length words ≡ 4 * n → w ≡ wordsOf n words

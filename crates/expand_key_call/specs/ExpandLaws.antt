@@ -22,14 +22,14 @@ at-most-56 twentyFour e = rw e (lit≤ tt)
 at-most-56 thirtyTwo e = rw e (lit≤ tt)
 
 -- What is known of a key and a way that passed, with the count n that was answered.
-pub record Keyed (key : List ℕ) (way n : ℕ) : Type 0 where
+pub record KeyPassed (key : List ℕ) (way n : ℕ) : Type 0 where
   pub checks : AllPass (keyAndWay key way)
   pub long : KeyLength (length key)
   pub count : n ≡ byKeyLength (length key) 40 48 56
 
-pub keyed : (key : List ℕ) (way : ℕ) {n : ℕ} → Accepted n ≡ keyAnswer key way → Keyed key way n
+pub key-passed : (key : List ℕ) (way : ℕ) {n : ℕ} → Accepted n ≡ keyAnswer key way → KeyPassed key way n
 unfolding expandedCount
-keyed key way {n} e =
+key-passed key way {n} e =
     let w : Went (keyAndWay key way) (expandedCount (length key)) n = went (keyAndWay key way) _ e in
     record { checks = w .checks; long = key-permitted (w .checks); count = w .same }
 
@@ -43,11 +43,11 @@ pub given-expanded : (key : List ℕ) {w : List ℕ} (out : List ℕ) {exit : Li
 unfolding expandedCall expandedCount
 given-expanded key out e l g = rw (← e, ← l) g
 
-pub keyed-refused : (key : List ℕ) (way : ℕ) (out : List ℕ) {r : Answer} {c : ℕ} → r ≡ keyAnswer key way → r ≡ Refused c → Given (expandKeyCall key way out) out r out
+pub expand-refused : (key : List ℕ) (way : ℕ) (out : List ℕ) {r : Answer} {c : ℕ} → r ≡ keyAnswer key way → r ≡ Refused c → Given (expandKeyCall key way out) out r out
 unfolding expandKeyCall
-keyed-refused key way out e h = refused-by (keyAndWay key way) _ _ _ out e h
+expand-refused key way out e h = refused-by (keyAndWay key way) _ _ _ out e h
 
-pub keyed-passed : {key : List ℕ} {way n : ℕ} (out : List ℕ) {exit : List ℕ} {r : Answer} → Keyed key way n
+pub expand-passed : {key : List ℕ} {way n : ℕ} (out : List ℕ) {exit : List ℕ} {r : Answer} → KeyPassed key way n
     → Given (expandedCall key out) out r exit → Given (expandKeyCall key way out) out r exit
 unfolding expandKeyCall expandedCall
-keyed-passed out k g = passed-by _ _ (k .checks) g
+expand-passed out k g = passed-by _ _ (k .checks) g

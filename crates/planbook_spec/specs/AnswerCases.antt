@@ -179,9 +179,9 @@ bookAnswers w way n m =
     ∷ []
 
 -- What both calls for a block answer under words of each of these lengths.
-unfoldable pub wordsAnswers : List ℕ → List ℕ
-wordsAnswers [] = []
-wordsAnswers (w ∷ ws) = blockAnswers w 1 16 16 ++ wordsAnswers ws
+unfoldable pub lengthsAnswers : List ℕ → List ℕ
+lengthsAnswers [] = []
+lengthsAnswers (w ∷ ws) = blockAnswers w 1 16 16 ++ lengthsAnswers ws
 
 -- Checks 1 to 5 and 14, most with two or more that fail at once, and the counts.
 pub callCases : List Case
@@ -204,8 +204,8 @@ callCases =
     -- words, the highest byte first, as many as there are; 14: the lengths of keys, the counts of words, one byte beside each permitted length, whole words between
     -- them, and one that is permitted where it is cut to eight bits; and the three permitted ones
     ∷ (lentWords (rising 12 1) gives 0x01020304 ∷ 0x05060708 ∷ 0x090a0b0c ∷ [])
-    ∷ (wordsAnswers (0 ∷ 16 ∷ 24 ∷ 32 ∷ 40 ∷ 48 ∷ 56 ∷ 159 ∷ 161 ∷ 176 ∷ 191 ∷ 193 ∷ 208 ∷ 223 ∷ 225 ∷ 416 ∷ []) gives replicate 32 (14 * 2 ^ 32))
-    ∷ (wordsAnswers (160 ∷ 192 ∷ 224 ∷ []) gives replicate 6 1)
+    ∷ (lengthsAnswers (0 ∷ 16 ∷ 24 ∷ 32 ∷ 40 ∷ 48 ∷ 56 ∷ 159 ∷ 161 ∷ 176 ∷ 191 ∷ 193 ∷ 208 ∷ 223 ∷ 225 ∷ 416 ∷ []) gives replicate 32 (14 * 2 ^ 32))
+    ∷ (lengthsAnswers (160 ∷ 192 ∷ 224 ∷ []) gives replicate 6 1)
     -- blocks: 14, 2, 3, 4
     ∷ (blockAnswers 161 4 15 15 ++ blockAnswers 0 1 15 16 ++ blockAnswers 225 2 16 17 gives replicate 6 (14 * 2 ^ 32))
     ∷ (blockAnswers 160 4 15 15 ++ blockAnswers 192 0 16 15 gives replicate 4 (2 * 2 ^ 32))
@@ -223,5 +223,5 @@ callCases =
     ∷ []
 
 pub callCases-hold : AllHold callCases
-unfolding callCases rising wordsAnswers allSame fromDigits numbersOf answer judged keyCheck wayCheck blockCheck outputCheck wordsCheck lentWords constantCount expandedCount constantsCall expandKeyCall blockChecks encryptBlockCall decryptBlockCall formChecks bookChecks encryptBookBy decryptBookBy encryptBookCall decryptBookCall
+unfolding callCases rising lengthsAnswers allSame fromDigits numbersOf answer judged keyCheck wayCheck blockCheck outputCheck wordsCheck lentWords constantCount expandedCount constantsCall expandKeyCall blockChecks encryptBlockCall decryptBlockCall formChecks bookChecks encryptBookBy decryptBookBy encryptBookCall decryptBookCall
 callCases-hold = computed callCases refl

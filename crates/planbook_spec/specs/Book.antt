@@ -174,7 +174,7 @@ unfoldable pub decryptBookBy : List Check → (List ℕ → List ℕ) → List �
 decryptBookBy cs D book out =
     judged (bookChecks cs 2 (decryptBody D) book out) (accepted (recordCount (contents book)) (recoded 1 (decryptBody D) book))
 
--- The book that a clear book must become when it is sealed by E, the cipher under given words or under a key; made from the two alone: no way enters. In each
+-- The book that a clear book must become when it is sealed by E, the cipher under given words or under a key; made from E and the clear book alone: no way enters. In each
 -- sheet the first record, added to the iv, is encrypted by E, and each later record likewise, added to the encrypted record before it.
 unfoldable pub encryptedBook : (List ℕ → List ℕ) → List ℕ → List ℕ
 encryptedBook E book = recoded 2 (encryptBody E) book

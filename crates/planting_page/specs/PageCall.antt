@@ -2,7 +2,7 @@
 use Prim.Native.Nat.{ℕ, _*_, _≤_, _<_}
 use mathlib.Core.Bool.{false}
 use mathlib.Core.List.{List, [], _∷_}
-use mathlib.Core.Path.{_≡_, sym, _∙_}
+use mathlib.Core.Path.{_≡_, _∙_}
 use borrow.Author.Tests.{lt-ltb, le-ltb}
 use Rattle.planbook_spec.specs.Outcome.{accepted, judged}
 use Rattle.planbook_spec.specs.OutcomeLaws.{AllPass, pass-left, judged-true, judged-false}
@@ -13,12 +13,12 @@ use Rattle.planbook_laws.specs.BookLaws.{Formed, formed}
 use Rattle.answer.specs.declared.Answer.{Answer}
 use Rattle.answer.specs.declared.Answer.the-variants.{Accepted, Refused}
 use Rattle.answer.specs.Answer.{Given}
-use Rattle.answer.specs.Judging.{stopped-first, passed-first, went, given-refused, given-same}
+use Rattle.answer.specs.Judging.{refused-by, passed-first, went, given-refused, given-same}
 use Rattle.book.specs.Directions.{bookAnswer}
 
 pub wrong-book : (book : List ℕ) (i : ℕ) (out : List ℕ) {r : Answer} {c : ℕ} → r ≡ bookAnswer false [] book → r ≡ Refused c → Given (pageCall book i out) out r out
 unfolding pageCall pageChecks
-wrong-book book i out e h = rw h (given-refused out (stopped-first (formAndRecords 1 asItIs book) _ (recordCount (contents book)) _ (sym h ∙ e)))
+wrong-book book i out e h = refused-by (formAndRecords 1 asItIs book) _ (recordCount (contents book)) _ out e h
 
 module _ (book : List ℕ) {records : ℕ} (e : Accepted records ≡ bookAnswer false [] book) where
   checked : AllPass (formAndRecords 1 asItIs book)

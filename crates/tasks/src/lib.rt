@@ -15,7 +15,7 @@ pub enum Task {
     CryptNote,
 }
 
-// The task done under the words w. `iv` is the block that a mode of operation starts from, where it is lent beside the input: the counter block of a
+// The task done under the words w, with the tables `words` and `bytes` that are lent. `iv` is the block that a mode of operation starts from, where it is lent beside the input: the counter block of a
 // note. A book has its own in its contents.
 pub fn perform(
     task: Task,
