@@ -51,6 +51,7 @@ pub record Lent (ws bs : List (List ℕ)) : Type 0 where
   pub words : length ws ≡ 8 → ws ≡ wordTables
   pub bytes : length bs ≡ 2 → bs ≡ byteTables
 
+-- What a call lends: the word tables alone, the byte tables alone, or none.
 never : (n : ℕ) {A : Type 0} → 0 < n → 0 ≡ n → A
 never n h e = let z : ⊥ = omega (arith, h, e) in absurd z
 

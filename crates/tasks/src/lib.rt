@@ -15,8 +15,8 @@ pub enum Task {
     CryptNote,
 }
 
-// The task done under the words w, with the tables `words` and `bytes` that are lent. `iv` is the block that a mode of operation starts from, where it is lent beside the input: the counter block of a
-// note. A book has its own in its contents.
+// The task done under the words w, with the tables `words` and `bytes` that are lent. `iv` is the block that a mode of operation starts from, where it is
+// lent beside the input: the counter block of a note. A book has its own in its contents.
 pub fn perform(
     task: Task,
     words: &[[u32; 256]],
@@ -33,12 +33,12 @@ pub fn perform(
     // Lent on as parts, the slices stay in registers (DECISIONS).
     let ws = &words[..];
     let bs = &bytes[..];
-    let k = &w[..];
+    let expanded = &w[..];
     match task {
-        Task::EncryptBlock => checks::code_block(false, ws, bs, k, src, out),
-        Task::DecryptBlock => checks::code_block(true, ws, bs, k, src, out),
-        Task::EncryptBook => book::encrypt_book(ws, bs, k, src, out),
-        Task::DecryptBook => book::decrypt_book(ws, bs, k, src, out),
-        Task::CryptNote => note::crypt_note(ws, bs, k, iv, src, out),
+        Task::EncryptBlock => checks::code_block(false, ws, bs, expanded, src, out),
+        Task::DecryptBlock => checks::code_block(true, ws, bs, expanded, src, out),
+        Task::EncryptBook => book::encrypt_book(ws, bs, expanded, src, out),
+        Task::DecryptBook => book::decrypt_book(ws, bs, expanded, src, out),
+        Task::CryptNote => note::crypt_note(ws, bs, expanded, iv, src, out),
     }
 }
