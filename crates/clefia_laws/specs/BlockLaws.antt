@@ -14,8 +14,8 @@ use Rattle.clefia_spec.specs.FFunction.{f0, f1}
 use Rattle.clefia_laws.specs.FFunctionLaws.{f0-lt, f1-lt}
 use Rattle.clefia_spec.specs.Network.{network4, inverseNetwork4}
 use Rattle.clefia_laws.specs.NetworkLaws.{undo-network, redo-network, length-inverseNetwork, below-inverseNetwork}
-use Rattle.clefia_laws.specs.KeyLaws.{row-network, row-expandKey}
-use Rattle.clefia_laws.specs.RowLaws.{Bytes, Row, sized-xors, Undone}
+use Rattle.clefia_laws.specs.KeyLaws.{words-network, words-expandKey}
+use Rattle.clefia_laws.specs.SizedLaws.{Bytes, Words, sized-xors, Undone}
 use Rattle.clefia_spec.specs.Block.{whiten, roundCount, encryptWords, decryptWords, encryptUnder, decryptUnder, encrypt, decrypt}
 
 -- ---- four words, under any words w
@@ -38,24 +38,24 @@ encrypt-decrypt-words w s =
     ∙ ap (whiten (getD w 2 0) (getD w 3 0)) (redo-network 2 f0 f1 (roundCount w) w 4 (whiten (getD w 2 0) (getD w 3 0) s))
     ∙ whiten-twice (getD w 2 0) (getD w 3 0) s
 
-row-whiten : {a b : ℕ} → a < 2 ^ 32 → b < 2 ^ 32 → {n : ℕ} {s : List ℕ} → Row n s → Row n (whiten a b s)
+words-whiten : {a b : ℕ} → a < 2 ^ 32 → b < 2 ^ 32 → {n : ℕ} {s : List ℕ} → Words n s → Words n (whiten a b s)
 unfolding whiten
-row-whiten ha hb h = sized-xors 32 (record { size = refl; below = more (lit< tt) (more ha (more (lit< tt) (more hb none))) }) h
+words-whiten ha hb h = sized-xors 32 (record { size = refl; below = more (lit< tt) (more ha (more (lit< tt) (more hb none))) }) h
 
 module _ {w : List ℕ} (words : Below (2 ^ 32) w) where
   at : (i : ℕ) → getD w i 0 < 2 ^ 32
   at i = below-getD (lit< tt) words i
 
-  pub row-encryptWords : {n : ℕ} {s : List ℕ} → Row n s → Row n (encryptWords w s)
+  pub words-encryptWords : {n : ℕ} {s : List ℕ} → Words n s → Words n (encryptWords w s)
   unfolding encryptWords
-  row-encryptWords h = row-whiten (at 2) (at 3) (row-network 2 (roundCount w) w 4 (row-whiten (at 0) (at 1) h))
+  words-encryptWords h = words-whiten (at 2) (at 3) (words-network 2 (roundCount w) w 4 (words-whiten (at 0) (at 1) h))
 
-  pub row-decryptWords : {n : ℕ} {s : List ℕ} → Row n s → Row n (decryptWords w s)
+  pub words-decryptWords : {n : ℕ} {s : List ℕ} → Words n s → Words n (decryptWords w s)
   unfolding decryptWords
-  row-decryptWords h = row-whiten (at 0) (at 1) (row-back (row-whiten (at 2) (at 3) h))
+  words-decryptWords h = words-whiten (at 0) (at 1) (words-back (words-whiten (at 2) (at 3) h))
     where
-      row-back : {n : ℕ} {s : List ℕ} → Row n s → Row n (inverseNetwork4 (roundCount w) w 4 s)
-      row-back {s = s} p =
+      words-back : {n : ℕ} {s : List ℕ} → Words n s → Words n (inverseNetwork4 (roundCount w) w 4 s)
+      words-back {s = s} p =
           record {
             size = length-inverseNetwork 2 f0 f1 (roundCount w) w 4 s ∙ p .size;
             below = below-inverseNetwork 2 f0 f1 32 f0-lt f1-lt (roundCount w) w 4 (p .below);
@@ -66,17 +66,17 @@ module _ {w : List ℕ} (words : Below (2 ^ 32) w) where
 pub word-back : (x : ℕ) → x < 2 ^ 32 → fromDigits 256 (toDigits 256 4 x) ≡ x
 word-back x h = from-to (lit< tt) 4 x ∙ mod-eq-of-lt h
 
-pub block-words : {s : List ℕ} → Row 4 s → wordsOf 4 (bytesOf s) ≡ s
+pub block-words : {s : List ℕ} → Words 4 s → wordsOf 4 (bytesOf s) ≡ s
 block-words {s} h = ap (λ (n : ℕ). wordsOf n (bytesOf s)) (sym (h .size)) ∙ numbers-digits (lit< tt) 4 (h .below)
 
 pub words-block : {b : List ℕ} → Bytes 16 b → bytesOf (wordsOf 4 b) ≡ b
 words-block {b} h = digits-numbers (lit< tt) 4 4 b (h .below) (h .size)
 
-pub row-block : {b : List ℕ} → Below 256 b → Row 4 (wordsOf 4 b)
-row-block {b} r = record { size = length-numbersOf 256 4 4 b; below = below-numbersOf (lit< tt) 4 4 r }
+pub words-of-block : {b : List ℕ} → Below 256 b → Words 4 (wordsOf 4 b)
+words-of-block {b} r = record { size = length-numbersOf 256 4 4 b; below = below-numbersOf (lit< tt) 4 4 r }
 
-pub block-row : {s : List ℕ} → Row 4 s → Bytes 16 (bytesOf s)
-block-row {s} h = record { size = length-digitsOf 256 4 s ∙ ap (λ (n : ℕ). n * 4) (h .size); below = below-digitsOf (lit< tt) 4 s }
+pub bytes-of-words : {s : List ℕ} → Words 4 s → Bytes 16 (bytesOf s)
+bytes-of-words {s} h = record { size = length-digitsOf 256 4 s ∙ ap (λ (n : ℕ). n * 4) (h .size); below = below-digitsOf (lit< tt) 4 s }
 
 -- ---- a block at the front of a row of bytes
 
@@ -101,28 +101,28 @@ block-at bs r h =
 -- ---- blocks
 
 -- a function on rows of four words, taken to the bytes of a block
-undoes-bytes : (f g : List ℕ → List ℕ) → ((s : List ℕ) → Row 4 s → Row 4 (f s)) → ((s : List ℕ) → g (f s) ≡ s)
+undoes-bytes : (f g : List ℕ → List ℕ) → ((s : List ℕ) → Words 4 s → Words 4 (f s)) → ((s : List ℕ) → g (f s) ≡ s)
     → Undone (Bytes 16) (λ b. bytesOf (f (wordsOf 4 b))) (λ b. bytesOf (g (wordsOf 4 b)))
 undoes-bytes f g kept back =
     record {
-      keeps = λ b h. block-row (kept (wordsOf 4 b) (row-block (h .below)));
-      back = λ b h. ap (λ (s : List ℕ). bytesOf (g s)) (block-words (kept (wordsOf 4 b) (row-block (h .below)))) ∙ ap bytesOf (back (wordsOf 4 b)) ∙ words-block h;
+      keeps = λ b h. bytes-of-words (kept (wordsOf 4 b) (words-of-block (h .below)));
+      back = λ b h. ap (λ (s : List ℕ). bytesOf (g s)) (block-words (kept (wordsOf 4 b) (words-of-block (h .below)))) ∙ ap bytesOf (back (wordsOf 4 b)) ∙ words-block h;
     }
 
 module _ {w : List ℕ} (words : Below (2 ^ 32) w) where
   pub decrypt-undoes-encrypt-under : Undone (Bytes 16) (encryptUnder w) (decryptUnder w)
   unfolding encryptUnder decryptUnder
-  decrypt-undoes-encrypt-under = undoes-bytes (encryptWords w) (decryptWords w) (λ s h. row-encryptWords words h) (decrypt-encrypt-words w)
+  decrypt-undoes-encrypt-under = undoes-bytes (encryptWords w) (decryptWords w) (λ s h. words-encryptWords words h) (decrypt-encrypt-words w)
 
   pub encrypt-undoes-decrypt-under : Undone (Bytes 16) (decryptUnder w) (encryptUnder w)
   unfolding encryptUnder decryptUnder
-  encrypt-undoes-decrypt-under = undoes-bytes (decryptWords w) (encryptWords w) (λ s h. row-decryptWords words h) (encrypt-decrypt-words w)
+  encrypt-undoes-decrypt-under = undoes-bytes (decryptWords w) (encryptWords w) (λ s h. words-decryptWords words h) (encrypt-decrypt-words w)
 
 module _ {key : List ℕ} (size : KeyLength (length key)) (bytes : Below 256 key) where
   pub decrypt-undoes-encrypt : Undone (Bytes 16) (encrypt key) (decrypt key)
   unfolding encrypt decrypt
-  decrypt-undoes-encrypt = decrypt-undoes-encrypt-under (row-expandKey size bytes .below)
+  decrypt-undoes-encrypt = decrypt-undoes-encrypt-under (words-expandKey size bytes .below)
 
   pub encrypt-undoes-decrypt : Undone (Bytes 16) (decrypt key) (encrypt key)
   unfolding encrypt decrypt
-  encrypt-undoes-decrypt = encrypt-undoes-decrypt-under (row-expandKey size bytes .below)
+  encrypt-undoes-decrypt = encrypt-undoes-decrypt-under (words-expandKey size bytes .below)

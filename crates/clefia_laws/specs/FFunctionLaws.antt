@@ -13,7 +13,7 @@ use Rattle.clefia_laws.specs.DigitLaws.{below-getD, fromDigits-lt}
 use Rattle.clefia_spec.specs.Field.{double4, product, inverse}
 use Rattle.clefia_laws.specs.FieldLaws.{product-lt}
 use Rattle.clefia_spec.specs.Sbox.{ss0, ss1, ss2, ss3, s0, bitOf, sumOfBits, affine, fRows, gRows, s1}
-use Rattle.clefia_spec.specs.FFunction.{entry, rowTimes, matrixTimes, substitute, f0, f1}
+use Rattle.clefia_spec.specs.FFunction.{matrixEntry, rowTimes, matrixTimes, substitute, f0, f1}
 
 -- a row of numbers, tested
 unfoldable pub allLess : ℕ → List ℕ → Bool
@@ -25,12 +25,12 @@ unfolding allLess
 below-tested b [] t = none
 below-tested b (x ∷ xs) t = let h = and-yes (ltb x b) (allLess b xs) t in more (ltb→lt x b (h .0)) (below-tested b xs (h .1))
 
-box : (ss : List ℕ) → T (allLess 16 ss) → (i : ℕ) → getD ss i 0 < 16
-box ss t = below-getD (lit< tt) (below-tested 16 ss t)
+ss-lt : (ss : List ℕ) → T (allLess 16 ss) → (i : ℕ) → getD ss i 0 < 16
+ss-lt ss t = below-getD (lit< tt) (below-tested 16 ss t)
 
 pub s0-lt : (x : ℕ) → s0 x < 256
 unfolding s0 ss2 ss3 allLess
-s0-lt x = digits-lt (box ss2 tt (t0 ⊕ double4 t1)) (box ss3 tt (double4 t0 ⊕ t1))
+s0-lt x = digits-lt (ss-lt ss2 tt (t0 ⊕ double4 t1)) (ss-lt ss3 tt (double4 t0 ⊕ t1))
   where
     t0 : ℕ
     t0 = getD ss0 (x / 16) 0
@@ -66,8 +66,8 @@ unfolding rowTimes
 rowTimes-lt m i {y} r =
     xor-lt 8 _ _ (xor-lt 8 _ _ (xor-lt 8 _ _ (term 0) (term 1)) (term 2)) (term 3)
   where
-    term : (j : ℕ) → product (getD y j 0) (entry m i j) < 2 ^ 8
-    term j = product-lt (getD y j 0) (entry m i j) (below-getD (lit< tt) r j)
+    term : (j : ℕ) → product (getD y j 0) (matrixEntry m i j) < 2 ^ 8
+    term j = product-lt (getD y j 0) (matrixEntry m i j) (below-getD (lit< tt) r j)
 
 pub matrixTimes-lt : (m : List ℕ) {y : List ℕ} → Below 256 y → matrixTimes m y < 2 ^ 32
 unfolding matrixTimes

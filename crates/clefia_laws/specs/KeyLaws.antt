@@ -11,7 +11,7 @@ use lib.Dec.{lit<, ltb, eqb}
 use lib.ListN.{length}
 use Rattle.clefia_spec.specs.Words.{_⊕_, complement, rotate, digitsOf, fourAt, choose, byKeyLength, KeyLength, sixteen, twentyFour, thirtyTwo, Below, none, more}
 use Rattle.clefia_laws.specs.DigitLaws.{length-numbersOf, below-append, below-take, below-drop, below-getD, below-numbersOf, below-digitsOf}
-use Rattle.clefia_laws.specs.RowLaws.{Row, sized-append, sized-take, sized-drop, sized-xors}
+use Rattle.clefia_laws.specs.SizedLaws.{Words, sized-append, sized-take, sized-drop, sized-xors}
 use Rattle.clefia_spec.specs.Constants.{divideByZ, evenConstant, oddConstant, constantsFrom, firstT, constants}
 use Rattle.clefia_spec.specs.FFunction.{f0, f1}
 use Rattle.clefia_laws.specs.FFunctionLaws.{f0-lt, f1-lt}
@@ -85,68 +85,68 @@ below-doubleSwap x =
     part : (a b : ℕ) → Below 2 (bitRange a b (digitsOf 2 32 x))
     part a b = below-take (b + 1 - a) (below-drop a (below-digitsOf (lit< tt) 32 x))
 
-row-swapped : (x : List ℕ) → Row 4 (doubleSwap x)
-row-swapped x = record { size = length-doubleSwap x; below = below-doubleSwap x }
+words-swapped : (x : List ℕ) → Words 4 (doubleSwap x)
+words-swapped x = record { size = length-doubleSwap x; below = below-doubleSwap x }
 
-row-fourAt : {w : List ℕ} → Below (2 ^ 32) w → (i : ℕ) → Row 4 (fourAt w i)
+words-fourAt : {w : List ℕ} → Below (2 ^ 32) w → (i : ℕ) → Words 4 (fourAt w i)
 unfolding fourAt
-row-fourAt r i = record { size = refl; below = below-fourAt (lit< tt) r i }
+words-fourAt r i = record { size = refl; below = below-fourAt (lit< tt) r i }
 
-row-chosen : {n : ℕ} (t : Bool) {a b : List ℕ} → Row n a → Row n b → Row n (choose t a b)
-row-chosen true p q = p
-row-chosen false p q = q
+words-chosen : {n : ℕ} (t : Bool) {a b : List ℕ} → Words n a → Words n b → Words n (choose t a b)
+words-chosen true p q = p
+words-chosen false p q = q
 
-row-stepKeys : (i : ℕ) {con k l : List ℕ} → Row 4 con → Row 4 k → Row 4 l → Row 4 (stepKeys i con k l)
+words-stepKeys : (i : ℕ) {con k l : List ℕ} → Words 4 con → Words 4 k → Words 4 l → Words 4 (stepKeys i con k l)
 unfolding stepKeys
-row-stepKeys i c p q = row-chosen (eqb (i % 2) 1) (sized-xors 32 p (sized-xors 32 c q)) (sized-xors 32 c q)
+words-stepKeys i c p q = words-chosen (eqb (i % 2) 1) (sized-xors 32 p (sized-xors 32 c q)) (sized-xors 32 c q)
 
 module _ (period base : ℕ) (con : List ℕ) (r : Below (2 ^ 32) con) where
-  row-roundKeys : (n i : ℕ) {k k′ l l′ : List ℕ} → Row 4 k → Row 4 k′ → Row 4 l → Row 4 l′ → Row (n * 4) (roundKeys period base con n i k k′ l l′)
+  words-roundKeys : (n i : ℕ) {k k′ l l′ : List ℕ} → Words 4 k → Words 4 k′ → Words 4 l → Words 4 l′ → Words (n * 4) (roundKeys period base con n i k k′ l l′)
   unfolding roundKeys
-  row-roundKeys zero i hk hk′ hl hl′ = record { size = sym (zero-mul 4); below = none }
-  row-roundKeys (suc n) i {k} {k′} {l} {l′} hk hk′ hl hl′ =
+  words-roundKeys zero i hk hk′ hl hl′ = record { size = sym (zero-mul 4); below = none }
+  words-roundKeys (suc n) i {k} {k′} {l} {l′} hk hk′ hl hl′ =
       let t : Bool = ltb (i % period) 2 in
       sized-append 4 (n * 4)
-      (row-stepKeys i (row-fourAt r (base + 4 * i)) (row-chosen t hk hk′) (row-chosen t hl hl′))
-      (row-roundKeys n (i + 1) hk hk′ (row-chosen t (row-swapped l) hl) (row-chosen t hl′ (row-swapped l′)))
+      (words-stepKeys i (words-fourAt r (base + 4 * i)) (words-chosen t hk hk′) (words-chosen t hl hl′))
+      (words-roundKeys n (i + 1) hk hk′ (words-chosen t (words-swapped l) hl) (words-chosen t hl′ (words-swapped l′)))
       (omega (arith, suc-mul n 4))
 
 -- ---- expanded keys
 
-pub row-network : (p n : ℕ) (con : List ℕ) (i : ℕ) {m : ℕ} {s : List ℕ} → Row m s → Row m (network p f0 f1 n con i s)
-row-network p n con i {s = s} h =
+pub words-network : (p n : ℕ) (con : List ℕ) (i : ℕ) {m : ℕ} {s : List ℕ} → Words m s → Words m (network p f0 f1 n con i s)
+words-network p n con i {s = s} h =
     record { size = length-network p f0 f1 n con i s ∙ h .size; below = below-network p f0 f1 32 f0-lt f1-lt n con i (h .below) }
 
-row-short : {k : List ℕ} → Row 4 k → Row 40 (expandShort k)
+words-short : {k : List ℕ} → Words 4 k → Words 40 (expandShort k)
 unfolding expandShort
-row-short {k} h =
-    sized-append 4 36 h (row-roundKeys 2 24 (constants 16) (below-constants sixteen) 9 0 h h l l) refl
+words-short {k} h =
+    sized-append 4 36 h (words-roundKeys 2 24 (constants 16) (below-constants sixteen) 9 0 h h l l) refl
   where
-    l : Row 4 (network4 12 (constants 16) 0 k)
-    l = row-network 2 12 (constants 16) 0 h
+    l : Words 4 (network4 12 (constants 16) 0 k)
+    l = words-network 2 12 (constants 16) 0 h
 
-row-long : {con : List ℕ} (n : ℕ) {kl kr : List ℕ} → Below (2 ^ 32) con → Row 4 kl → Row 4 kr → Row (4 + n * 4) (expandLong con n kl kr)
+words-long : {con : List ℕ} (n : ℕ) {kl kr : List ℕ} → Below (2 ^ 32) con → Words 4 kl → Words 4 kr → Words (4 + n * 4) (expandLong con n kl kr)
 unfolding expandLong
-row-long {con} n {kl} {kr} c hl hr =
-    sized-append 4 (n * 4) (sized-xors 32 hl hr) (row-roundKeys 4 40 con c n 0 hr hl (sized-take 4 4 l refl) (sized-drop 4 4 l refl)) refl
+words-long {con} n {kl} {kr} c hl hr =
+    sized-append 4 (n * 4) (sized-xors 32 hl hr) (words-roundKeys 4 40 con c n 0 hr hl (sized-take 4 4 l refl) (sized-drop 4 4 l refl)) refl
   where
-    l : Row 8 (network8 10 con 0 (kl ++ kr))
-    l = row-network 4 10 con 0 (sized-append 4 4 hl hr refl)
+    l : Words 8 (network8 10 con 0 (kl ++ kr))
+    l = words-network 4 10 con 0 (sized-append 4 4 hl hr refl)
 
-row-extendKey : {k : List ℕ} → Below (2 ^ 32) k → Row 4 (extendKey k)
+words-extendKey : {k : List ℕ} → Below (2 ^ 32) k → Words 4 (extendKey k)
 unfolding extendKey
-row-extendKey r = record { size = refl; below = search (more, none, below-getD, complement-lt, lit<, tt) depth 9 }
+words-extendKey r = record { size = refl; below = search (more, none, below-getD, complement-lt, lit<, tt) depth 9 }
 
-pub row-expandKeyWords : {n : ℕ} → KeyLength n → {k : List ℕ} → Below (2 ^ 32) k → Row (byKeyLength n 40 48 56) (expandKeyWords n k)
+pub words-expandKeyWords : {n : ℕ} → KeyLength n → {k : List ℕ} → Below (2 ^ 32) k → Words (byKeyLength n 40 48 56) (expandKeyWords n k)
 unfolding expandKeyWords
-row-expandKeyWords sixteen r = row-short (row-fourAt r 0)
-row-expandKeyWords twentyFour r = row-long 11 (below-constants twentyFour) (row-fourAt r 0) (row-extendKey r)
-row-expandKeyWords thirtyTwo r = row-long 13 (below-constants thirtyTwo) (row-fourAt r 0) (row-fourAt r 4)
+words-expandKeyWords sixteen r = words-short (words-fourAt r 0)
+words-expandKeyWords twentyFour r = words-long 11 (below-constants twentyFour) (words-fourAt r 0) (words-extendKey r)
+words-expandKeyWords thirtyTwo r = words-long 13 (below-constants thirtyTwo) (words-fourAt r 0) (words-fourAt r 4)
 
 -- The expanded key of a key of a permitted length: 40, 48 or 56 words.
-pub row-expandKey : {key : List ℕ} → KeyLength (length key) → Below 256 key → Row (byKeyLength (length key) 40 48 56) (expandKey key)
+pub words-expandKey : {key : List ℕ} → KeyLength (length key) → Below 256 key → Words (byKeyLength (length key) 40 48 56) (expandKey key)
 unfolding expandKey
-row-expandKey {key} h r = row-expandKeyWords h (below-numbersOf (lit< tt) 4 (length key / 4) r)
+words-expandKey {key} h r = words-expandKeyWords h (below-numbersOf (lit< tt) 4 (length key / 4) r)
 
 pub length-expandKey : {key : List ℕ} → KeyLength (length key) → Below 256 key → length (expandKey key) ≡ byKeyLength (length key) 40 48 56
-length-expandKey h r = row-expandKey h r .size
+length-expandKey h r = words-expandKey h r .size

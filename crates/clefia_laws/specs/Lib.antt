@@ -1,6 +1,6 @@
 pub mod XorLaws
 pub mod DigitLaws
-pub mod RowLaws
+pub mod SizedLaws
 pub mod NetworkLaws
 pub mod FieldLaws
 pub mod FFunctionLaws

@@ -9,7 +9,7 @@ use Rattle.clefia_spec.specs.Words.{complement, rotate, fromDigits, toDi
 use Rattle.clefia_spec.specs.Constants.{divideByZ, evenConstant, oddConstant, constantsFrom, firstT, constants}
 use Rattle.clefia_spec.specs.Field.{double, addProduct, product, squares, inverse}
 use Rattle.clefia_spec.specs.Sbox.{ss0, ss1, ss2, ss3, s0, s1, bitOf, sumOfBits, affine, fRows, gRows}
-use Rattle.clefia_spec.specs.FFunction.{m0, m1, entry, rowTimes, matrixTimes, substitute, f0, f1}
+use Rattle.clefia_spec.specs.FFunction.{m0, m1, matrixEntry, rowTimes, matrixTimes, substitute, f0, f1}
 use Rattle.clefia_spec.specs.Network.{feistel, rotateBranches, rounds, undoRounds, network, inverseNetwork}
 use Rattle.clefia_spec.specs.KeySchedule.{bitRange, doubleSwapBits, doubleSwap, stepKeys, roundKeys, expandShort, expandLong, extendKey, expandKeyWords, expandKey}
 use Rattle.clefia_spec.specs.Block.{whiten, roundCount, encryptWords, decryptWords, encryptUnder, decryptUnder}
@@ -68,7 +68,7 @@ blockExamples =
     ∷ []
 
 pub blockExamples-hold : AllHold blockExamples
-unfolding blockExamples allSame fromDigits toDigits digitsOf numbersOf xors double addProduct product squares inverse ss0 ss1 ss2 ss3 s0 s1 bitOf sumOfBits affine fRows gRows m0 m1 entry rowTimes matrixTimes substitute f0 f1 feistel rotateBranches rounds undoRounds network inverseNetwork whiten roundCount encryptWords decryptWords encryptUnder decryptUnder
+unfolding blockExamples allSame fromDigits toDigits digitsOf numbersOf xors double addProduct product squares inverse ss0 ss1 ss2 ss3 s0 s1 bitOf sumOfBits affine fRows gRows m0 m1 matrixEntry rowTimes matrixTimes substitute f0 f1 feistel rotateBranches rounds undoRounds network inverseNetwork whiten roundCount encryptWords decryptWords encryptUnder decryptUnder
 blockExamples-hold = computed blockExamples refl
 
 pub constantsExamples-hold : AllHold constantsExamples
@@ -76,5 +76,5 @@ unfolding constantsExamples allSame complement rotate divideByZ evenConstant odd
 constantsExamples-hold = computed constantsExamples refl
 
 pub expandedKeys-hold : AllHold expandedKeys
-unfolding expandedKeys allSame complement rotate fromDigits toDigits digitsOf numbersOf fourAt xors divideByZ evenConstant oddConstant constantsFrom firstT constants double addProduct product squares inverse ss0 ss1 ss2 ss3 s0 s1 bitOf sumOfBits affine fRows gRows m0 m1 entry rowTimes matrixTimes substitute f0 f1 feistel rotateBranches rounds network bitRange doubleSwapBits doubleSwap stepKeys roundKeys expandShort expandLong extendKey expandKeyWords expandKey
+unfolding expandedKeys allSame complement rotate fromDigits toDigits digitsOf numbersOf fourAt xors divideByZ evenConstant oddConstant constantsFrom firstT constants double addProduct product squares inverse ss0 ss1 ss2 ss3 s0 s1 bitOf sumOfBits affine fRows gRows m0 m1 matrixEntry rowTimes matrixTimes substitute f0 f1 feistel rotateBranches rounds network bitRange doubleSwapBits doubleSwap stepKeys roundKeys expandShort expandLong extendKey expandKeyWords expandKey
 expandedKeys-hold = computed expandedKeys refl

@@ -13,16 +13,16 @@ m0 = 0x01 ∷ 0x02 ∷ 0x04 ∷ 0x06 ∷ []
 unfoldable pub m1 : List ℕ
 m1 = 0x01 ∷ 0x08 ∷ 0x02 ∷ 0x0a ∷ []
 
-unfoldable pub entry : List ℕ → ℕ → ℕ → ℕ
-entry m i j = getD m (i ⊕ j) 0
+unfoldable pub matrixEntry : List ℕ → ℕ → ℕ → ℕ
+matrixEntry m i j = getD m (i ⊕ j) 0
 
 -- Row i of the matrix times four bytes.
 unfoldable pub rowTimes : List ℕ → ℕ → List ℕ → ℕ
 rowTimes m i y =
-    product (getD y 0 0) (entry m i 0)
-    ⊕ product (getD y 1 0) (entry m i 1)
-    ⊕ product (getD y 2 0) (entry m i 2)
-    ⊕ product (getD y 3 0) (entry m i 3)
+    product (getD y 0 0) (matrixEntry m i 0)
+    ⊕ product (getD y 1 0) (matrixEntry m i 1)
+    ⊕ product (getD y 2 0) (matrixEntry m i 2)
+    ⊕ product (getD y 3 0) (matrixEntry m i 3)
 
 -- The matrix times four bytes, as a word.
 unfoldable pub matrixTimes : List ℕ → List ℕ → ℕ

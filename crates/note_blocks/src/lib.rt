@@ -4,29 +4,29 @@ ghost use Prim.Native.Nat.{_+_, _-_, _≤_};
 ghost use borrow.Rule.Slice.PartMut.{putMid};
 ghost use lib.ListN.{length, drop};
 ghost use Rattle.clefia_spec.specs.Words.{bytesOf, wordsOf, xors};
-ghost use Rattle.ffunction.specs.Tables.{Lent};
-ghost use Rattle.note_blocks.specs.Counter.{counterRow, encryptedFour};
-use network_rows::FourRows;
+ghost use Rattle.cipher_ffunction.specs.Tables.{ValidTables};
+ghost use Rattle.note_blocks.specs.Counter.{counterState, encryptedFour};
+use cipher_network4_four_way::FourStates;
 
 // Counter block i of a note as four words. The last one counts, and goes on at zero after its greatest.
-pub fn counter_row(counter: [u32; 4], i: u32) -> [u32; 4]
-    ensures { λ r. ⌜ r ≡ counterRow counter i ⌝ }
+pub fn counter_state(counter: [u32; 4], i: u32) -> [u32; 4]
+    ensures { λ r. ⌜ r ≡ counterState counter i ⌝ }
 {
     let number = std::num::wrapping_add_u32(counter[3], i);
     [counter[0], counter[1], counter[2], number]
 }
 
 // The block that stands at `at` of src, with the four words s added, written into the 16 bytes of dst. Words are read and written by turns, as in
-// rows::exchange.
+// cipher_bytes::exchange.
 fn add_words(dst: &mut [u8], s: [u32; 4], src: &[u8], at: usize)
     requires { ⌜ length (now dst) ≡ 16 ⌝ }
     requires { ⌜ at + 16 ≤ length (now src) ⌝ }
     ensures { λ r. ⌜ now (dst .exit) ≡ bytesOf (xors s (wordsOf 4 (drop at (now (src .entry))))) ⌝ }
 {
-    rows::put_word(dst, 0, s[0] ^ rows::word(src, at));
-    rows::put_word(dst, 4, s[1] ^ rows::word(src, at + 4));
-    rows::put_word(dst, 8, s[2] ^ rows::word(src, at + 8));
-    rows::put_word(dst, 12, s[3] ^ rows::word(src, at + 12));
+    cipher_bytes::put_word(dst, 0, s[0] ^ cipher_bytes::word(src, at));
+    cipher_bytes::put_word(dst, 4, s[1] ^ cipher_bytes::word(src, at + 4));
+    cipher_bytes::put_word(dst, 8, s[2] ^ cipher_bytes::word(src, at + 8));
+    cipher_bytes::put_word(dst, 12, s[3] ^ cipher_bytes::word(src, at + 12));
 }
 
 // The whole block of the note that stands at `at`, with an encrypted counter block s added.
@@ -44,7 +44,7 @@ pub fn add_part(s: [u32; 4], part: &[u8], out: &mut [u8])
     ensures { λ r. ⌜ now (out .exit) ≡ xors (bytesOf s) (now (part .entry)) ⌝ }
 {
     let mut bytes = [0u8; 16];
-    rows::store(&mut bytes, s);
+    cipher_bytes::store(&mut bytes, s);
     let mut i = 0;
     while i < part.len() {
         out[i] = bytes[i] ^ part[i];
@@ -54,21 +54,21 @@ pub fn add_part(s: [u32; 4], part: &[u8], out: &mut [u8])
 
 // The four counter blocks from block i on, encrypted.
 pub fn encrypt_four(
-    words: &[[u32; 256]],
-    bytes: &[[u8; 256]],
-    w: &[u32],
+    word_tables: &[[u32; 256]],
+    byte_tables: &[[u8; 256]],
+    expanded: &[u32],
     counter: [u32; 4],
     i: u32,
-) -> FourRows
-    requires { ⌜ Lent (now words) (now bytes) ⌝ }
-    requires { ⌜ (4 ≤ length (now w)) × (i ≤ 1020) ⌝ }
-    ensures { λ r. ⌜ r ≡ encryptedFour (now (w .entry)) counter i ⌝ }
+) -> FourStates
+    requires { ⌜ ValidTables (now «word_tables») (now «byte_tables») ⌝ }
+    requires { ⌜ (4 ≤ length (now expanded)) × (i ≤ 1020) ⌝ }
+    ensures { λ r. ⌜ r ≡ encryptedFour (now (expanded .entry)) counter i ⌝ }
 {
-    let blocks = FourRows {
-        a: counter_row(counter, i),
-        b: counter_row(counter, i + 1),
-        c: counter_row(counter, i + 2),
-        d: counter_row(counter, i + 3),
+    let blocks = FourStates {
+        a: counter_state(counter, i),
+        b: counter_state(counter, i + 1),
+        c: counter_state(counter, i + 2),
+        d: counter_state(counter, i + 3),
     };
-    block_rows::encrypt_each(words, bytes, w, blocks)
+    cipher_block_four_way::encrypt_each(word_tables, byte_tables, expanded, blocks)
 }

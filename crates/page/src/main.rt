@@ -5,7 +5,7 @@ use libc::STDERR_FILENO;
 use libc::STDIN_FILENO;
 use libc::STDOUT_FILENO;
 use planbook::planbook_page;
-use samples::outputs::within;
+use test_script::outputs::within;
 ghost use Prim.Native.Nat.{_≤_};
 
 fn join(a: u8, b: u8) -> usize

@@ -12,9 +12,9 @@ use lib.Dec.{eqb, ltb}
 use lib.ListN.{length, take, drop, set, length-append, length-set, drop-of-length-le}
 use lib.Seq.{set-split, drop-at, length-take-le, take-all, take-suc-set}
 use Rattle.clefia_spec.specs.Words.{choose}
-use Rattle.planbook_spec.specs.Page.{decimal, spaces, rightAligned, numberField, joined}
+use Rattle.planbook_spec.specs.Page.{decimal, spaces, rightAligned, numberField, fields}
 use Rattle.planbook_laws.specs.PageLaws.{length-field}
-use Rattle.rows.specs.Rows.{fill-part, length-part}
+use Rattle.cipher_bytes.specs.ListLaws.{fill-part, length-part}
 
 -- The character of the last digit of what is left of a number, or a space where nothing is left.
 unfoldable pub shownDigit : ℕ → ℕ
@@ -54,7 +54,7 @@ front-last k (suc m) = let some : eqb (suc m) 0 ≡ false = ne-eqb (suc m) 0 (λ
 
 -- ---- a field that is written from its end: characters from i on stand there, and `rest` is left of the number n
 
-pub record Written (w n i rest : ℕ) (out : List ℕ) : Type 0 where
+pub record DigitsWritten (w n i rest : ℕ) (out : List ℕ) : Type 0 where
   pub size : length out ≡ w
   pub inside : i < w
   pub whole : frontField i rest ++ drop i out ≡ numberField w n
@@ -63,7 +63,7 @@ drop-set : (k : ℕ) (out : List ℕ) (c : ℕ) → k < length out → drop k (s
 drop-set k out c h = ap (drop k) (set-split out k c h) ∙ drop-at (take k out) (c ∷ drop (suc k) out) k (length-take-le k out (omega arith))
 
 -- The last character.
-pub written-start : (n : ℕ) (out : List ℕ) → 0 < length out → Written (length out) n (length out - 1) (n / 10) (set out (length out - 1) (48 + n % 10))
+pub written-start : (n : ℕ) (out : List ℕ) → 0 < length out → DigitsWritten (length out) n (length out - 1) (n / 10) (set out (length out - 1) (48 + n % 10))
 written-start n out h =
     let k : ℕ = length out - 1 in
     let l : length out ≡ suc k = omega arith in
@@ -77,7 +77,7 @@ written-start n out h =
     }
 
 -- One character more.
-pub written-next : {w n i rest : ℕ} {out : List ℕ} → Written w n i rest out → 0 < i → Written w n (i - 1) (rest / 10) (set out (i - 1) (shownDigit rest))
+pub written-next : {w n i rest : ℕ} {out : List ℕ} → DigitsWritten w n i rest out → 0 < i → DigitsWritten w n (i - 1) (rest / 10) (set out (i - 1) (shownDigit rest))
 written-next {w} {n} {i} {rest} {out} h pos =
     let k : ℕ = i - 1 in
     let e : i ≡ suc k = omega arith in
@@ -90,7 +90,7 @@ written-next {w} {n} {i} {rest} {out} h pos =
           (sym (append-assoc (frontField k (rest / 10)) (shownDigit rest ∷ []) (drop (suc k) out)) ∙ ap (λ (l : List ℕ). l ++ drop (suc k) out) (sym (front-last k rest)) ∙ whole);
     }
 
-pub written-end : {w n rest : ℕ} {out : List ℕ} → Written w n 0 rest out → out ≡ numberField w n
+pub written-end : {w n rest : ℕ} {out : List ℕ} → DigitsWritten w n 0 rest out → out ≡ numberField w n
 unfolding frontField spaces rightAligned decimal
 written-end {rest = rest} {out = out} h = ap (λ (l : List ℕ). l ++ out) (sym (nothing (eqb rest 0))) ∙ h .whole
   where
@@ -111,5 +111,5 @@ field-put at w n c out h =
 pub line-put : (a b c d e : ℕ) (o p q r s : List ℕ) → take 11 o ≡ numberField 10 a ++ (32 ∷ []) → take 22 p ≡ take 11 o ++ (numberField 10 b ++ (32 ∷ []))
     → take 24 q ≡ take 22 p ++ (numberField 1 c ++ (32 ∷ [])) → take 28 r ≡ take 24 q ++ (numberField 3 d ++ (32 ∷ []))
     → take 32 s ≡ take 28 r ++ (numberField 3 e ++ (10 ∷ [])) → length s ≡ 32
-    → s ≡ joined (numberField 10 a) (numberField 10 b) (numberField 1 c) (numberField 3 d) (numberField 3 e)
+    → s ≡ fields (numberField 10 a) (numberField 10 b) (numberField 1 c) (numberField 3 d) (numberField 3 e)
 line-put a b c d e o p q r s ho hp hq hr hs l = sym (take-all 32 s (le-of-eq l)) ∙ rw (hs, hr, hq, hp, ho) (simp append-assoc)

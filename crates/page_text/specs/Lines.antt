@@ -9,7 +9,7 @@ use Rattle.planbook_spec.specs.Book.{pieces}
 use Rattle.planbook_spec.specs.Page.{heading, line, lines}
 use Rattle.planbook_laws.specs.WalkLaws.{pieces-next}
 use Rattle.planbook_laws.specs.PageLaws.{length-line}
-use Rattle.rows.specs.Rows.{fill-end, fill-part, length-part}
+use Rattle.cipher_bytes.specs.ListLaws.{fill-end, fill-part, length-part}
 
 pub record Lined (count : ℕ) (body out : List ℕ) (at to left : ℕ) : Type 0 where
   pub place : at + 16 * left ≡ 16 * count

@@ -13,13 +13,13 @@ use Rattle.clefia_spec.specs.KeySchedule.{expandKey}
 use Rattle.clefia_spec.specs.Block.{encryptUnder, decryptUnder, encrypt}
 use Rattle.clefia_laws.specs.BlockLaws.{decrypt-undoes-encrypt-under, encrypt-undoes-decrypt-under}
 use Rattle.clefia_laws.specs.DigitLaws.{below-numbersOf}
-use Rattle.clefia_laws.specs.RowLaws.{Bytes, Undone}
+use Rattle.clefia_laws.specs.SizedLaws.{Bytes, Undone}
 use Rattle.planbook_spec.specs.Outcome.{accepted, after, judged}
 use Rattle.planbook_spec.specs.OutcomeLaws.{none, more, pass-tail, pass-append, judged-pass, Passed, passed, Accepted, accepted-is, Judges, judges}
-use Rattle.planbook_spec.specs.Checks.{keyCheck, outputCheck, lentWords, keyAndWay, wordsAndWay, constantCount, expandedCount, constantsCall, expandKeyCall, blockChecks, encryptBlockCall, decryptBlockCall}
+use Rattle.planbook_spec.specs.Checks.{keyCheck, outputCheck, wordsFromBytes, keyAndWay, wordsAndWay, constantCount, expandedCount, constantsCall, expandKeyCall, blockChecks, encryptBlockCall, decryptBlockCall}
 use Rattle.planbook_laws.specs.CheckLaws.{Way, WordsLength, block-size, block-passes, output-passes, wordsAndWay-passes, words-again}
-use Rattle.planbook_laws.specs.UnderKey.{Expanded, same-words, expanded-bytes, lent-expanded}
-use Rattle.planbook_spec.specs.Book.{number, pieces, entriesHold, contents, recordCount, formChecks, eachBody, sheetsHold, recordsCheck, asItIs, decryptBody, recoded, bookChecks, encryptBookBy, decryptBookBy, encryptedBook, decryptedBook, encryptBookCall, decryptBookCall}
+use Rattle.planbook_laws.specs.UnderKey.{Expanded, same-words, expanded-bytes, words-expanded}
+use Rattle.planbook_spec.specs.Book.{number, pieces, entriesHold, contents, recordCount, formChecks, eachBody, sheetsHold, recordsCheck, asItIs, decryptBody, mapBodies, bookChecks, encryptBookBy, decryptBookBy, encryptedBook, decryptedBook, encryptBookCall, decryptBookCall}
 use Rattle.planbook_laws.specs.Undoing.{BlockCipher}
 use Rattle.planbook_laws.specs.BookCipher.{encrypted-decrypts, decrypted-encrypts, encrypted-is, encrypted-alike}
 
@@ -37,22 +37,22 @@ unfolding expandKeyCall
 demand1-expandKey key way out = judges _ _ _
 
 pub demand1-encryptBlock : (words : List ℕ) (way : ℕ) (block out : List ℕ)
-    → Judges (blockChecks (wordsAndWay words way) block out) 1 (encryptUnder (lentWords words) block) (encryptBlockCall words way block out)
+    → Judges (blockChecks (wordsAndWay words way) block out) 1 (encryptUnder (wordsFromBytes words) block) (encryptBlockCall words way block out)
 unfolding encryptBlockCall
 demand1-encryptBlock words way block out = judges _ _ _
 
 pub demand1-decryptBlock : (words : List ℕ) (way : ℕ) (block out : List ℕ)
-    → Judges (blockChecks (wordsAndWay words way) block out) 1 (decryptUnder (lentWords words) block) (decryptBlockCall words way block out)
+    → Judges (blockChecks (wordsAndWay words way) block out) 1 (decryptUnder (wordsFromBytes words) block) (decryptBlockCall words way block out)
 unfolding decryptBlockCall
 demand1-decryptBlock words way block out = judges _ _ _
 
 pub demand1-encryptBook : (words : List ℕ) (way : ℕ) (book out : List ℕ)
-    → Judges (bookChecks (wordsAndWay words way) 1 asItIs book out) (recordCount (contents book)) (encryptedBook (encryptUnder (lentWords words)) book) (encryptBookCall words way book out)
+    → Judges (bookChecks (wordsAndWay words way) 1 asItIs book out) (recordCount (contents book)) (encryptedBook (encryptUnder (wordsFromBytes words)) book) (encryptBookCall words way book out)
 unfolding encryptBookCall encryptBookBy encryptedBook
 demand1-encryptBook words way book out = judges _ _ _
 
 pub demand1-decryptBook : (words : List ℕ) (way : ℕ) (book out : List ℕ)
-    → Judges (bookChecks (wordsAndWay words way) 2 (decryptBody (decryptUnder (lentWords words))) book out) (recordCount (contents book)) (decryptedBook (decryptUnder (lentWords words)) book) (decryptBookCall words way book out)
+    → Judges (bookChecks (wordsAndWay words way) 2 (decryptBody (decryptUnder (wordsFromBytes words))) book out) (recordCount (contents book)) (decryptedBook (decryptUnder (wordsFromBytes words)) book) (decryptBookCall words way book out)
 unfolding decryptBookCall decryptBookBy decryptedBook
 demand1-decryptBook words way book out = judges _ _ _
 
@@ -62,9 +62,9 @@ pub cipherUnder : {w : List ℕ} → Below (2 ^ 32) w → BlockCipher (encryptUn
 cipherUnder h = record { encrypted = decrypt-undoes-encrypt-under h; decrypted = encrypt-undoes-decrypt-under h }
 
 -- The words that a call is lent.
-pub cipherLent : {words : List ℕ} → Below 256 words → BlockCipher (encryptUnder (lentWords words)) (decryptUnder (lentWords words))
-unfolding lentWords
-cipherLent h = cipherUnder (below-numbersOf (lit< tt) 4 _ h)
+pub cipherFromBytes : {words : List ℕ} → Below 256 words → BlockCipher (encryptUnder (wordsFromBytes words)) (decryptUnder (wordsFromBytes words))
+unfolding wordsFromBytes
+cipherFromBytes h = cipherUnder (below-numbersOf (lit< tt) 4 _ h)
 
 -- ---- demand 2: under the same words, what one call has made the other takes back, by any of the ways each time. (That blocks, keys and chains are those of
 -- CLEFIA and of CBC is in the definitions that the outcomes name.)
@@ -75,14 +75,14 @@ module _ (words : List ℕ) (bytes : Below 256 words) (way way′ : ℕ) (permit
       → length out′ ≡ length book → decryptBookCall words way′ encrypted out′ ≡ accepted n book
   unfolding encryptBookCall encryptBookBy bookChecks decryptBookCall
   demand2-decrypts-under book out out′ r a e =
-      encrypted-decrypts _ _ (cipherLent bytes) (wordsAndWay words way) (wordsAndWay words way′) book out out′ r a (words-again words (passed _ _ _ a .checks) permitted) e
+      encrypted-decrypts _ _ (cipherFromBytes bytes) (wordsAndWay words way) (wordsAndWay words way′) book out out′ r a (words-again words (passed _ _ _ a .checks) permitted) e
 
   -- An opened book seals to the same sealed bytes.
   pub demand2-encrypts-under : (book out out′ : List ℕ) {n : ℕ} {decrypted : List ℕ} → Below 256 book → decryptBookCall words way book out ≡ accepted n decrypted
       → length out′ ≡ length book → encryptBookCall words way′ decrypted out′ ≡ accepted n book
   unfolding decryptBookCall decryptBookBy bookChecks encryptBookCall
   demand2-encrypts-under book out out′ r a e =
-      decrypted-encrypts _ _ (cipherLent bytes) (wordsAndWay words way) (wordsAndWay words way′) book out out′ r a (words-again words (passed _ _ _ a .checks) permitted) e
+      decrypted-encrypts _ _ (cipherFromBytes bytes) (wordsAndWay words way) (wordsAndWay words way′) book out out′ r a (words-again words (passed _ _ _ a .checks) permitted) e
 
   -- So with single blocks: what one call has made, by F, the other one, by G, takes back.
   block-comes-back : {F G : List ℕ → List ℕ} → Undone (Bytes 16) F G → (block out out′ : List ℕ) {n : ℕ} {bs : List ℕ} → Below 256 block → length out′ ≡ 16
@@ -99,12 +99,12 @@ module _ (words : List ℕ) (bytes : Below 256 words) (way way′ : ℕ) (permit
   pub demand2-block-decrypts-under : (block out out′ : List ℕ) {n : ℕ} {bs : List ℕ} → Below 256 block → length out′ ≡ 16
       → encryptBlockCall words way block out ≡ accepted n bs → decryptBlockCall words way′ bs out′ ≡ accepted n block
   unfolding encryptBlockCall decryptBlockCall
-  demand2-block-decrypts-under = block-comes-back (cipherLent bytes .encrypted)
+  demand2-block-decrypts-under = block-comes-back (cipherFromBytes bytes .encrypted)
 
   pub demand2-block-encrypts-under : (block out out′ : List ℕ) {n : ℕ} {bs : List ℕ} → Below 256 block → length out′ ≡ 16
       → decryptBlockCall words way block out ≡ accepted n bs → encryptBlockCall words way′ bs out′ ≡ accepted n block
   unfolding encryptBlockCall decryptBlockCall
-  demand2-block-encrypts-under = block-comes-back (cipherLent bytes .decrypted)
+  demand2-block-encrypts-under = block-comes-back (cipherFromBytes bytes .decrypted)
 
 -- Under one key: the first call is lent words of the key, and the second one the same or those that were expanded once more, by whichever way.
 module _ (key : List ℕ) {words words′ : List ℕ} (lent : Expanded key words) (lent′ : Expanded key words′) (way way′ : ℕ) (permitted : Way way′) where
@@ -138,12 +138,12 @@ pub record EncryptedAlike (E : List ℕ → List ℕ) (a b x y : List ℕ) : Typ
 -- The two are made by the cipher's data part under the words lent.
 pub demand3-under : (words : List ℕ) → Below 256 words → (way way′ : ℕ) (a b out out′ : List ℕ) → Below 256 a → Below 256 b
     → Accepted (encryptBookCall words way a out) → Accepted (encryptBookCall words way′ b out′)
-    → EncryptedAlike (encryptUnder (lentWords words)) a b (after out (encryptBookCall words way a out)) (after out′ (encryptBookCall words way′ b out′))
+    → EncryptedAlike (encryptUnder (wordsFromBytes words)) a b (after out (encryptBookCall words way a out)) (after out′ (encryptBookCall words way′ b out′))
 unfolding encryptBookCall encryptedBook
 demand3-under words bytes way way′ a b out out′ ra rb pa pb =
     let ea : encryptBookCall words way a out ≡ accepted _ (after out (encryptBookCall words way a out)) = accepted-is pa out in
     let eb : encryptBookCall words way′ b out′ ≡ accepted _ (after out′ (encryptBookCall words way′ b out′)) = accepted-is pb out′ in
-    let c : BlockCipher (encryptUnder (lentWords words)) (decryptUnder (lentWords words)) = cipherLent bytes in
+    let c : BlockCipher (encryptUnder (wordsFromBytes words)) (decryptUnder (wordsFromBytes words)) = cipherFromBytes bytes in
     record {
       alike = encrypted-alike _ _ c (wordsAndWay words way) (wordsAndWay words way′) a b out out′ ra rb ea eb;
       first = encrypted-is _ _ c (wordsAndWay words way) a out ea;
@@ -157,12 +157,12 @@ pub demand3 : (key : List ℕ) → Below 256 key → {words words′ : List ℕ}
 unfolding encrypt
 demand3 key bytes {words} lent lent′ way way′ a b out out′ ra rb pa pb =
     rw (same-words lent′ lent)
-    (rw (lent-expanded bytes lent) at
+    (rw (words-expanded bytes lent) at
     (demand3-under words (expanded-bytes lent) way way′ a b out out′ ra rb pa (rw (same-words lent′ lent) at pb)))
 
 -- The empty book, under any words of a permitted count and by any way: it is sealed to its head with another first byte, with the count 0.
 pub empty-book : (words out : List ℕ) {way : ℕ} → WordsLength (length words) → Way way → length out ≡ 4
     → encryptBookCall words way (1 ∷ 0 ∷ 0 ∷ 0 ∷ []) out ≡ accepted 0 (2 ∷ 0 ∷ 0 ∷ 0 ∷ [])
-unfolding fromDigits number pieces entriesHold recordCount formChecks eachBody sheetsHold recordsCheck recoded bookChecks encryptBookBy encryptBookCall
+unfolding fromDigits number pieces entriesHold recordCount formChecks eachBody sheetsHold recordsCheck mapBodies bookChecks encryptBookBy encryptBookCall
 empty-book words out k w e =
     judged-pass (pass-append (wordsAndWay-passes words k w) (pass-append (output-passes 4 out e) (more (more (more (more (more (more (more none))))))))) _

@@ -13,10 +13,10 @@ use lib.Seq.{take-at, take-all, drop-at, drop-drop, length-take-le}
 use Rattle.clefia_spec.specs.Words.{fromDigits, toDigits, xors}
 use Rattle.clefia_spec.specs.Block.{encryptUnder}
 use Rattle.clefia_laws.specs.DigitLaws.{from-to, to-from, fromDigits-lt, below-drop, length-xors, xors-cancel, take-xors, drop-xors}
-use Rattle.clefia_laws.specs.RowLaws.{Bytes}
+use Rattle.clefia_laws.specs.SizedLaws.{Bytes}
 use Rattle.planbook_spec.specs.Outcome.{accepted, after, Check}
 use Rattle.planbook_spec.specs.OutcomeLaws.{AllPass, pass-head, pass-tail, pass-right, pass-append, pass-check, judged-pass, Passed, passed, Accepted, accepted-is, Judges, judges}
-use Rattle.planbook_spec.specs.Checks.{lentWords, wordsAndWay}
+use Rattle.planbook_spec.specs.Checks.{wordsFromBytes, wordsAndWay}
 use Rattle.planbook_spec.specs.Book.{number}
 use Rattle.planbook_spec.specs.Note.{counterBlock, keystream, blockCount, ctr, noteCheck, noteChecks, cryptNoteBy, cryptNoteCall}
 use Rattle.planbook_laws.specs.CheckLaws.{Way, block-size, output-size, block-passes, output-passes, words-again}
@@ -129,7 +129,7 @@ module _ (E : List ℕ → List ℕ) (cs cs′ : List Check) (counter : List ℕ
 -- ---- under the same words, by any way each time
 
 pub demand1-cryptNote : (words : List ℕ) (way : ℕ) (counter note out : List ℕ)
-    → Judges (noteChecks (wordsAndWay words way) counter note out) (length note) (ctr (encryptUnder (lentWords words)) counter note) (cryptNoteCall words way counter note out)
+    → Judges (noteChecks (wordsAndWay words way) counter note out) (length note) (ctr (encryptUnder (wordsFromBytes words)) counter note) (cryptNoteCall words way counter note out)
 unfolding cryptNoteCall cryptNoteBy
 demand1-cryptNote words way counter note out = judges _ _ _
 

@@ -6,18 +6,18 @@ use native.Mathlib.Nat.{mul-comm}
 use lib.ListN.{length}
 use Rattle.clefia_spec.specs.Words.{Below, bytesOf}
 use Rattle.clefia_spec.specs.Block.{encryptUnder}
-use Rattle.clefia_laws.specs.RowLaws.{Bytes, Undone}
+use Rattle.clefia_laws.specs.SizedLaws.{Bytes, Undone}
 use Rattle.clefia_laws.specs.DigitLaws.{length-digitsOf}
 use Rattle.clefia_laws.specs.KeyLaws.{length-constants, length-expandKey}
 use Rattle.planbook_spec.specs.Outcome.{accepted, judged}
 use Rattle.planbook_spec.specs.OutcomeLaws.{pass-tail, passed}
-use Rattle.planbook_spec.specs.Checks.{lentWords, wordsAndWay, constantCount, expandedCount, constantsCall, expandKeyCall, blockChecks, encryptBlockCall, decryptBlockCall}
+use Rattle.planbook_spec.specs.Checks.{wordsFromBytes, wordsAndWay, constantCount, expandedCount, constantsCall, expandKeyCall, blockChecks, encryptBlockCall, decryptBlockCall}
 use Rattle.planbook_laws.specs.CheckLaws.{key-permitted, output-size, block-size}
 use Rattle.planbook_spec.specs.Book.{encryptBookCall, decryptBookCall}
 use Rattle.planbook_spec.specs.Note.{cryptNoteBy, cryptNoteCall}
 use Rattle.planbook_spec.specs.Page.{pageChecks, page, lineCount, pageCall}
 use Rattle.planbook_laws.specs.BookCipher.{encrypted-length, decrypted-length}
-use Rattle.planbook_laws.specs.Demands.{cipherLent}
+use Rattle.planbook_laws.specs.Demands.{cipherFromBytes}
 use Rattle.planbook_laws.specs.NoteLaws.{length-ctr, note-passed}
 use Rattle.planbook_laws.specs.PageLaws.{length-page, page-passed}
 
@@ -49,26 +49,26 @@ module _ (words : List ℕ) (way : ℕ) (block out : List ℕ) {n : ℕ} {bs : L
 
   pub encryptBlock-length : encryptBlockCall words way block out ≡ accepted n bs → length bs ≡ length out
   unfolding encryptBlockCall
-  encryptBlock-length = block-length (cipherLent bytes .encrypted)
+  encryptBlock-length = block-length (cipherFromBytes bytes .encrypted)
 
   pub decryptBlock-length : decryptBlockCall words way block out ≡ accepted n bs → length bs ≡ length out
   unfolding decryptBlockCall
-  decryptBlock-length = block-length (cipherLent bytes .decrypted)
+  decryptBlock-length = block-length (cipherFromBytes bytes .decrypted)
 
 module _ (words : List ℕ) (way : ℕ) (book out : List ℕ) {n : ℕ} {bs : List ℕ} (bytes : Below 256 words) (below : Below 256 book) where
   pub encryptBook-length : encryptBookCall words way book out ≡ accepted n bs → length bs ≡ length out
   unfolding encryptBookCall
-  encryptBook-length a = encrypted-length _ _ (cipherLent bytes) _ book out below a
+  encryptBook-length a = encrypted-length _ _ (cipherFromBytes bytes) _ book out below a
 
   pub decryptBook-length : decryptBookCall words way book out ≡ accepted n bs → length bs ≡ length out
   unfolding decryptBookCall
-  decryptBook-length a = decrypted-length _ _ (cipherLent bytes) _ book out below a
+  decryptBook-length a = decrypted-length _ _ (cipherFromBytes bytes) _ book out below a
 
 pub cryptNote-length : (words : List ℕ) (way : ℕ) (counter note out : List ℕ) {n : ℕ} {bs : List ℕ} → cryptNoteCall words way counter note out ≡ accepted n bs → length bs ≡ length out
 unfolding cryptNoteCall cryptNoteBy
 cryptNote-length words way counter note out a =
     let p = passed _ _ _ a in
-    ap length (sym (p .sameBytes)) ∙ length-ctr (encryptUnder (lentWords words)) counter note ∙ sym (note-passed (wordsAndWay words way) counter note out (p .checks) .room)
+    ap length (sym (p .sameBytes)) ∙ length-ctr (encryptUnder (wordsFromBytes words)) counter note ∙ sym (note-passed (wordsAndWay words way) counter note out (p .checks) .room)
 
 -- A page has 32 bytes for each line that the count tells.
 pub page-length : (book : List ℕ) (i : ℕ) (out : List ℕ) {n : ℕ} {bs : List ℕ} → pageCall book i out ≡ accepted n bs → (length bs ≡ length out) × (length bs ≡ 32 * n)

@@ -14,7 +14,7 @@ use Rattle.clefia_spec.specs.Cases.{both-true}
 use Rattle.clefia_spec.specs.Words.{choose, fromDigits, toDigits, Below, none, more}
 use Rattle.clefia_laws.specs.FFunctionLaws.{allLess, below-tested}
 use Rattle.clefia_laws.specs.DigitLaws.{to-from, fromDigits-lt, below-append}
-use Rattle.clefia_laws.specs.RowLaws.{Bytes, sized-take, sized-drop}
+use Rattle.clefia_laws.specs.SizedLaws.{Bytes, sized-take, sized-drop}
 use Rattle.planbook_spec.specs.Outcome.{accepted, after}
 use Rattle.planbook_spec.specs.OutcomeLaws.{AllPass, pass-head, pass-tail, pass-left, pass-right, passed, Accepted, accepted-is, Judges, judges}
 use Rattle.planbook_spec.specs.Checks.{outputCheck}
@@ -23,7 +23,7 @@ use Rattle.planbook_laws.specs.Undoing.{empty}
 use Rattle.planbook_laws.specs.CheckLaws.{output-size}
 use Rattle.planbook_laws.specs.BookLaws.{Formed, formed}
 use Rattle.planbook_laws.specs.SheetLaws.{body-room, SheetKept, sheet-kept}
-use Rattle.planbook_spec.specs.Page.{decimal, spaces, rightAligned, numberField, joined, heading, line, lines, page, lineCount, sheetCheck, pageChecks, pageCall}
+use Rattle.planbook_spec.specs.Page.{decimal, spaces, rightAligned, numberField, fields, heading, line, lines, page, lineCount, sheetCheck, pageChecks, pageCall}
 
 -- ---- lengths
 
@@ -90,8 +90,8 @@ below-aligned w h = below-append (below-spaces _) h
 below-field : (w n : ℕ) → Below 128 (numberField w n)
 below-field w n = below-aligned w (below-decimal w n)
 
-below-joined : {a b c d e : List ℕ} → Below 128 a → Below 128 b → Below 128 c → Below 128 d → Below 128 e → Below 128 (joined a b c d e)
-below-joined a b c d e =
+below-fields : {a b c d e : List ℕ} → Below 128 a → Below 128 b → Below 128 c → Below 128 d → Below 128 e → Below 128 (fields a b c d e)
+below-fields a b c d e =
     below-append a (more (lit< tt) (below-append b (more (lit< tt) (below-append c (more (lit< tt) (below-append d (more (lit< tt) (below-append e (more (lit< tt) none)))))))))
 
 below-heading : Below 128 heading
@@ -101,7 +101,7 @@ below-heading = below-tested 128 heading tt
 below-lines : (rs : List (List ℕ)) → Below 128 (lines rs)
 unfolding lines line
 below-lines [] = none
-below-lines (r ∷ rs) = below-append (below-joined (below-field 10 _) (below-field 10 _) (below-field 1 _) (below-field 3 _) (below-field 3 _)) (below-lines rs)
+below-lines (r ∷ rs) = below-append (below-fields (below-field 10 _) (below-field 10 _) (below-field 1 _) (below-field 3 _) (below-field 3 _)) (below-lines rs)
 
 -- So a page is ASCII.
 pub ascii-page : (i : ℕ) (book : List ℕ) → Below 128 (page i book)
@@ -146,13 +146,13 @@ fields-differ w {m} {n} h k e = sym (field-back w m h) ∙ ap (readOn 0) e ∙ f
 -- ---- a line says its record
 
 -- Two rows of equal parts.
-parts : (n : ℕ) (a a′ : List ℕ) {b b′ : List ℕ} → length a ≡ n → length a′ ≡ n → a ++ b ≡ a′ ++ b′ → (a ≡ a′) × (b ≡ b′)
-parts n a a′ {b} {b′} l l′ e =
+equal-parts : (n : ℕ) (a a′ : List ℕ) {b b′ : List ℕ} → length a ≡ n → length a′ ≡ n → a ++ b ≡ a′ ++ b′ → (a ≡ a′) × (b ≡ b′)
+equal-parts n a a′ {b} {b′} l l′ e =
     (sym (take-at a b n l) ∙ ap (take n) e ∙ take-at a′ b′ n l′, sym (drop-at a b n l) ∙ ap (drop n) e ∙ drop-at a′ b′ n l′)
 
 -- The field at the front of two lines, and what follows it.
 field-parts : (w m n : ℕ) {b b′ : List ℕ} → numberField w m ++ b ≡ numberField w n ++ b′ → (numberField w m ≡ numberField w n) × (b ≡ b′)
-field-parts w m n = parts w (numberField w m) (numberField w n) (length-field w m) (length-field w n)
+field-parts w m n = equal-parts w (numberField w m) (numberField w n) (length-field w m) (length-field w n)
 
 -- That the numbers of a record fit their fields.
 record Fits (r : List ℕ) : Type 0 where
@@ -279,7 +279,7 @@ lines-say (suc n) e e′ {b} {b′} few few′ p p′ h h′ q =
     let r′ : Bytes 16 (take 16 b′) = sized-take 16 (16 * n) p′ (omega arith) in
     let k : Kept (take 16 b) = kept e few r (t .0) in
     let k′ : Kept (take 16 b′) = kept e′ few′ r′ (t′ .0) in
-    let s = parts 32 (line (take 16 b)) (line (take 16 b′)) (length-line (take 16 b)) (length-line (take 16 b′)) q in
+    let s = equal-parts 32 (line (take 16 b)) (line (take 16 b′)) (length-line (take 16 b)) (length-line (take 16 b′)) q in
     let first : take 16 b ≡ take 16 b′ = same-record r r′ (same-numbers (k .fits) (k′ .fits) (s .0)) (k .zeros ∙ sym (k′ .zeros)) in
     let rest : drop 16 b ≡ drop 16 b′ =
     lines-say n e e′ few few′ (sized-drop 16 (16 * n) p (omega arith)) (sized-drop 16 (16 * n) p′ (omega arith)) (t .1) (t′ .1) (s .1) in
@@ -295,7 +295,7 @@ bodies-say n n′ e e′ {b} {b′} few few′ p p′ h h′ q =
 module _ {book book′ : List ℕ} {i i′ : ℕ} (s : SheetKept i book) (s′ : SheetKept i′ book′) where
   page-says : page i book ≡ page i′ book′ → sheetBody i book ≡ sheetBody i′ book′
   unfolding page
-  page-says e = bodies-say _ _ (sheetEntry i book) (sheetEntry i′ book′) (s .few) (s′ .few) (s .bytes) (s′ .bytes) (s .holds) (s′ .holds) (parts 32 heading heading length-heading length-heading e .1)
+  page-says e = bodies-say _ _ (sheetEntry i book) (sheetEntry i′ book′) (s .few) (s′ .few) (s .bytes) (s′ .bytes) (s .holds) (s′ .holds) (equal-parts 32 heading heading length-heading length-heading e .1)
 
   body-says : sheetBody i book ≡ sheetBody i′ book′ → page i book ≡ page i′ book′
   unfolding page

@@ -18,7 +18,7 @@ use Rattle.planbook_spec.specs.OutcomeLaws.{AllPass, judged-pass, judged-append
 use Rattle.planbook_spec.specs.Checks.{outputCheck, keyAndWay}
 use Rattle.planbook_laws.specs.CheckLaws.{Way, way-passes}
 use Rattle.planbook_laws.specs.UnderKey.{Expanded, encryptBook-under-key, decryptBook-under-key}
-use Rattle.planbook_spec.specs.Book.{number, pieces, trial, count, replicates, entryHolds, entriesHold, recordTrial, recordEntry, recordReplicate, recordRow, recordColumn, plotHolds, recordHolds, allRecordsHold, sheetCount, contents, bodies, recordCount, formChecks, sheetsHold, recordsCheck, asItIs, encryptBody, decryptBody, recoded, bookChecks, encryptBookBy, decryptBookBy, encryptBookCall, decryptBookCall}
+use Rattle.planbook_spec.specs.Book.{number, pieces, trial, count, replicates, entryHolds, entriesHold, recordTrial, recordEntry, recordReplicate, recordRow, recordColumn, plotHolds, recordHolds, allRecordsHold, sheetCount, contents, bodies, recordCount, formChecks, sheetsHold, recordsCheck, asItIs, encryptBody, decryptBody, mapBodies, bookChecks, encryptBookBy, decryptBookBy, encryptBookCall, decryptBookCall}
 use Rattle.planbook_laws.specs.Undoing.{Every, nothing, both, every-map}
 
 -- ---- the rules of past seasons
@@ -64,10 +64,10 @@ everySheet P f (e ∷ es) bs = everyRecord (P e) (pieces 16 (count e) (f e (take
 
 -- Checks 4 to 10.
 unfoldable pub pastFormChecks : PastRule → ℕ → List ℕ → List ℕ → List Check
-pastFormChecks rule mark book out =
+pastFormChecks rule kind book out =
     outputCheck (length book) out
     ∷ check 5 (leb 4 (length book) && leb (length book) 65532)
-    ∷ check 6 (eqb (getD book 0 0) mark && eqb (getD book 1 0) 0)
+    ∷ check 6 (eqb (getD book 0 0) kind && eqb (getD book 1 0) 0)
     ∷ check 7 (leb (sheetCount book) 64)
     ∷ check 8 (leb (4 + 24 * sheetCount book) (length book))
     ∷ check 9 (pastEntriesHold rule 0 (contents book))
@@ -76,16 +76,16 @@ pastFormChecks rule mark book out =
 
 -- The checks of a call on a whole book: some list cs about key and way, or words and way, then 4 to 10, and 11.
 unfoldable pub pastBookChecks : PastRule → List Check → ℕ → (List ℕ → List ℕ → List ℕ) → List ℕ → List ℕ → List Check
-pastBookChecks rule cs mark f book out =
-    cs ++ (pastFormChecks rule mark book out ++ (check 11 (everySheet (pastRecordHolds rule) f (contents book) (bodies book)) ∷ []))
+pastBookChecks rule cs kind f book out =
+    cs ++ (pastFormChecks rule kind book out ++ (check 11 (everySheet (pastRecordHolds rule) f (contents book) (bodies book)) ∷ []))
 
 unfoldable pub pastEncryptBookBy : PastRule → List Check → (List ℕ → List ℕ) → List ℕ → List ℕ → Outcome
 pastEncryptBookBy rule cs E book out =
-    judged (pastBookChecks rule cs 1 asItIs book out) (accepted (recordCount (contents book)) (recoded 2 (encryptBody E) book))
+    judged (pastBookChecks rule cs 1 asItIs book out) (accepted (recordCount (contents book)) (mapBodies 2 (encryptBody E) book))
 
 unfoldable pub pastDecryptBookBy : PastRule → List Check → (List ℕ → List ℕ) → List ℕ → List ℕ → Outcome
 pastDecryptBookBy rule cs D book out =
-    judged (pastBookChecks rule cs 2 (decryptBody D) book out) (accepted (recordCount (contents book)) (recoded 1 (decryptBody D) book))
+    judged (pastBookChecks rule cs 2 (decryptBody D) book out) (accepted (recordCount (contents book)) (mapBodies 1 (decryptBody D) book))
 
 -- ---- the rule of plots, of a whole book: every record keeps it, once its body has gone through f
 
@@ -155,18 +155,18 @@ past-sheets rule f bs (both {e = e} {es = es} alike every) =
     rw (past-records rule e rs (alike .most), past-sheets rule f rest every)
     (middle-two (everyRecord (pastRecordHolds rule e) rs) (everyRecord (plotKept e) rs) (everySheet (pastRecordHolds rule) f es rest) (everySheet plotKept f es rest))
 
-past-checks : (rule : PastRule) (cs : List Check) (book out : List ℕ) → Every (Alike rule) (contents book) → (mark : ℕ) (f : List ℕ → List ℕ → List ℕ)
-    → bookChecks cs mark f book out
-    ≡ cs ++ (pastFormChecks rule mark book out ++ (check 11 (everySheet (pastRecordHolds rule) f (contents book) (bodies book) && plotsHold f book) ∷ []))
+past-checks : (rule : PastRule) (cs : List Check) (book out : List ℕ) → Every (Alike rule) (contents book) → (kind : ℕ) (f : List ℕ → List ℕ → List ℕ)
+    → bookChecks cs kind f book out
+    ≡ cs ++ (pastFormChecks rule kind book out ++ (check 11 (everySheet (pastRecordHolds rule) f (contents book) (bodies book) && plotsHold f book) ∷ []))
 unfolding formChecks recordsCheck bookChecks pastFormChecks
-past-checks rule cs book out every mark f = rw (past-entries rule 0 every, past-sheets rule f (bodies book) every)
+past-checks rule cs book out every kind f = rw (past-entries rule 0 every, past-sheets rule f (bodies book) every)
 
 -- ---- 0 in byte 6 of every entry, and the rule of plots kept: for any cipher, and any checks cs about words and way, so for the exported calls
 
 module _ (cs : List Check) (book out : List ℕ) (every : Every Unnumbered (contents book)) where
-  kept-checks : (mark : ℕ) (f : List ℕ → List ℕ → List ℕ) → plotsHold f book ≡ true → bookChecks cs mark f book out ≡ pastBookChecks firstRule cs mark f book out
+  kept-checks : (kind : ℕ) (f : List ℕ → List ℕ → List ℕ) → plotsHold f book ≡ true → bookChecks cs kind f book out ≡ pastBookChecks firstRule cs kind f book out
   unfolding pastBookChecks
-  kept-checks mark f h = past-checks firstRule cs book out (every-map first-alike every) mark f ∙ rw (h, and-true)
+  kept-checks kind f h = past-checks firstRule cs book out (every-map first-alike every) kind f ∙ rw (h, and-true)
 
   pub past-encrypts : (E : List ℕ → List ℕ) → plotsHold asItIs book ≡ true → encryptBookBy cs E book out ≡ pastEncryptBookBy firstRule cs E book out
   unfolding encryptBookBy pastEncryptBookBy
@@ -195,11 +195,11 @@ past-zeros previous (e ∷ es) h =
     let p : (firstEntryHolds previous e ≡ true) × (pastEntriesHold firstRule (trial e) es ≡ true) = both-true (firstEntryHolds previous e) (pastEntriesHold firstRule (trial e) es) h in
     both (past-zero previous e (p .0)) (past-zeros (trial e) es (p .1))
 
-past-alike : {rule : PastRule} → Season rule → (mark : ℕ) (book out : List ℕ) → AllPass (pastFormChecks rule mark book out) → Every (Alike rule) (contents book)
+past-alike : {rule : PastRule} → Season rule → (kind : ℕ) (book out : List ℕ) → AllPass (pastFormChecks rule kind book out) → Every (Alike rule) (contents book)
 unfolding pastFormChecks
-past-alike first mark book out p =
+past-alike first kind book out p =
     every-map first-alike (past-zeros 0 (contents book) (pass-head (pass-tail (pass-tail (pass-tail (pass-tail (pass-tail p)))))))
-past-alike second mark book out p = second-alike (contents book)
+past-alike second kind book out p = second-alike (contents book)
 
 -- Where all checks passed, and of the last one q is asked too, q alone decides.
 one-check : (c : ℕ) (q : Bool) (o : Outcome) → judged (check c q ∷ []) o ≡ choose q o (refused c)
@@ -217,14 +217,14 @@ last-check c {cs} ds p q o a b =
     ∙ judged-pass (pass-left ds _ b) _
     ∙ rw t (one-check c q o)
 
-module _ {rule : PastRule} (season : Season rule) (cs : List Check) {cs′ : List Check} (mark : ℕ) (f : List ℕ → List ℕ → List ℕ) (book out : List ℕ) (o : Outcome) where
-  past-judged : AllPass (pastBookChecks rule cs mark f book out) → AllPass cs′ → judged (bookChecks cs′ mark f book out) o ≡ choose (plotsHold f book) o (refused 11)
+module _ {rule : PastRule} (season : Season rule) (cs : List Check) {cs′ : List Check} (kind : ℕ) (f : List ℕ → List ℕ → List ℕ) (book out : List ℕ) (o : Outcome) where
+  past-judged : AllPass (pastBookChecks rule cs kind f book out) → AllPass cs′ → judged (bookChecks cs′ kind f book out) o ≡ choose (plotsHold f book) o (refused 11)
   unfolding pastBookChecks
   past-judged p q =
-      let b : AllPass (pastFormChecks rule mark book out ++ (check 11 (everySheet (pastRecordHolds rule) f (contents book) (bodies book)) ∷ [])) = pass-right cs _ p in
-      let every : Every (Alike rule) (contents book) = past-alike season mark book out (pass-left (pastFormChecks rule mark book out) _ b) in
-      ap (λ (ks : List Check). judged ks o) (past-checks rule cs′ book out every mark f)
-      ∙ last-check 11 (pastFormChecks rule mark book out) (everySheet (pastRecordHolds rule) f (contents book) (bodies book)) (plotsHold f book) o q b
+      let b : AllPass (pastFormChecks rule kind book out ++ (check 11 (everySheet (pastRecordHolds rule) f (contents book) (bodies book)) ∷ [])) = pass-right cs _ p in
+      let every : Every (Alike rule) (contents book) = past-alike season kind book out (pass-left (pastFormChecks rule kind book out) _ b) in
+      ap (λ (ks : List Check). judged ks o) (past-checks rule cs′ book out every kind f)
+      ∙ last-check 11 (pastFormChecks rule kind book out) (everySheet (pastRecordHolds rule) f (contents book) (bodies book)) (plotsHold f book) o q b
 
 -- The calls of past seasons took the key. Today's are lent the words that were expanded for it, and may go by another way.
 module _ {rule : PastRule} (season : Season rule) (key : List ℕ) (bytes : Below 256 key) {words : List ℕ} (lent : Expanded key words) (way : ℕ) {way′ : ℕ} (permitted : Way way′) (book out : List ℕ) {n : ℕ} {bs : List ℕ} where

@@ -14,9 +14,9 @@ use Rattle.clefia_spec.specs.Words.{choose, byKeyLength, Below}
 use Rattle.clefia_spec.specs.Block.{encryptUnder, decryptUnder, encrypt}
 use Rattle.planbook_spec.specs.Outcome.{Outcome, refused, accepted, answer, after, Answers, Check, check, judged}
 use Rattle.planbook_spec.specs.OutcomeLaws.{AllPass, none, more, answers-equal, Accepted, accepting}
-use Rattle.planbook_spec.specs.Checks.{keyCheck, wayCheck, blockCheck, outputCheck, wordsCheck, lentWords, wordsAndWay, constantCount, expandedCount, constantsCall, expandKeyCall, blockChecks, encryptBlockCall, decryptBlockCall}
+use Rattle.planbook_spec.specs.Checks.{keyCheck, wayCheck, blockCheck, outputCheck, wordsCheck, wordsFromBytes, wordsAndWay, constantCount, expandedCount, constantsCall, expandKeyCall, blockChecks, encryptBlockCall, decryptBlockCall}
 use Rattle.planbook_laws.specs.CheckLaws.{Way}
-use Rattle.planbook_laws.specs.UnderKey.{Expanded, expanded, same-words, expanded-bytes, lent-expanded}
+use Rattle.planbook_laws.specs.UnderKey.{Expanded, expanded, same-words, expanded-bytes, words-expanded}
 use Rattle.planbook_spec.specs.Book.{sheetBody, formChecks, recordsCheck, asItIs, decryptBody, bookChecks, encryptBookBy, decryptBookBy, encryptBookCall, decryptBookCall}
 use Rattle.planbook_spec.specs.Note.{noteCheck, noteChecks, cryptNoteBy, cryptNoteCall}
 use Rattle.planbook_spec.specs.Page.{sheetCheck, pageChecks, pageCall}
@@ -63,9 +63,9 @@ pub accepts : {o : Outcome} → Readable o → {out : List ℕ} {r : ℕ} {exit 
 accepts p a h = ⊎-elim (λ x. let z : ⊥ = omega (arith, x .least) in absurd z) (λ x. x .outcome) (received p a)
 
 -- The number and the bytes of an outcome that is known to be accepted.
-told : {o : Outcome} {n : ℕ} {bs out : List ℕ} {r : ℕ} {exit : List ℕ} → o ≡ accepted n bs → Answers o out r exit → (r ≡ n) × (exit ≡ bs)
+number-and-output : {o : Outcome} {n : ℕ} {bs out : List ℕ} {r : ℕ} {exit : List ℕ} → o ≡ accepted n bs → Answers o out r exit → (r ≡ n) × (exit ≡ bs)
 unfolding answer after
-told {out = out} e a = answers-equal a (record { number = sym (ap answer e); output = sym (ap (after out) e) })
+number-and-output {out = out} e a = answers-equal a (record { number = sym (ap answer e); output = sym (ap (after out) e) })
 
 -- ---- every call's outcome can be read
 
@@ -82,9 +82,9 @@ readable (check c false ∷ cs) n bs e f =
     let h : (leb 1 c ≡ true) × (leb c lastCheck ≡ true) = both-true (leb 1 c) (leb c lastCheck) (both-true (leb 1 c && leb c lastCheck) (numbered cs) e .0) in
     refusal (leb-true 1 c (h .0)) (leb-true c lastCheck (h .1))
 
-numbered-book : (words : List ℕ) (way mark : ℕ) (f : List ℕ → List ℕ → List ℕ) (book out : List ℕ) → numbered (bookChecks (wordsAndWay words way) mark f book out) ≡ true
+numbered-book : (words : List ℕ) (way kind : ℕ) (f : List ℕ → List ℕ → List ℕ) (book out : List ℕ) → numbered (bookChecks (wordsAndWay words way) kind f book out) ≡ true
 unfolding bookChecks formChecks recordsCheck wordsCheck wayCheck outputCheck numbered
-numbered-book words way mark f book out = refl
+numbered-book words way kind f book out = refl
 
 chosen-lt : (t : Bool) {a b m : ℕ} → a < m → b < m → choose t a b < m
 chosen-lt true h k = h
@@ -116,7 +116,7 @@ module _ (words : List ℕ) (way : ℕ) where
 
   pub readable-decryptBook : (book out : List ℕ) → Readable (decryptBookCall words way book out)
   unfolding decryptBookCall decryptBookBy
-  readable-decryptBook book out = readable (bookChecks (wordsAndWay words way) 2 (decryptBody (decryptUnder (lentWords words))) book out) _ _ (numbered-book words way _ _ book out) (λ p. formed-count (book-formed _ _ _ book out p))
+  readable-decryptBook book out = readable (bookChecks (wordsAndWay words way) 2 (decryptBody (decryptUnder (wordsFromBytes words))) book out) _ _ (numbered-book words way _ _ book out) (λ p. formed-count (book-formed _ _ _ book out p))
 
   pub readable-cryptNote : (counter note out : List ℕ) → Readable (cryptNoteCall words way counter note out)
   unfolding cryptNoteCall cryptNoteBy noteChecks wordsCheck wayCheck blockCheck outputCheck noteCheck numbered
@@ -131,19 +131,19 @@ readable-page book i out = readable (pageChecks book i out) _ _ refl (λ p. line
 module _ (words : List ℕ) (bytes : Below 256 words) (way way′ : ℕ) (permitted : Way way′) (src out out′ : List ℕ) (below : Below 256 src) {r r′ : ℕ} {exit exit′ : List ℕ} (small : r < 2 ^ 32) where
   pub demand2-decrypts-under-received : Answers (encryptBookCall words way src out) out r exit → length out′ ≡ length src
       → Answers (decryptBookCall words way′ exit out′) out′ r′ exit′ → (r′ ≡ r) × (exit′ ≡ src)
-  demand2-decrypts-under-received a e = told (demand2-decrypts-under words bytes way way′ permitted src out out′ below (accepts (readable-encryptBook words way src out) a small) e)
+  demand2-decrypts-under-received a e = number-and-output (demand2-decrypts-under words bytes way way′ permitted src out out′ below (accepts (readable-encryptBook words way src out) a small) e)
 
   pub demand2-encrypts-under-received : Answers (decryptBookCall words way src out) out r exit → length out′ ≡ length src
       → Answers (encryptBookCall words way′ exit out′) out′ r′ exit′ → (r′ ≡ r) × (exit′ ≡ src)
-  demand2-encrypts-under-received a e = told (demand2-encrypts-under words bytes way way′ permitted src out out′ below (accepts (readable-decryptBook words way src out) a small) e)
+  demand2-encrypts-under-received a e = number-and-output (demand2-encrypts-under words bytes way way′ permitted src out out′ below (accepts (readable-decryptBook words way src out) a small) e)
 
   pub demand2-block-decrypts-under-received : Answers (encryptBlockCall words way src out) out r exit → length out′ ≡ 16
       → Answers (decryptBlockCall words way′ exit out′) out′ r′ exit′ → (r′ ≡ r) × (exit′ ≡ src)
-  demand2-block-decrypts-under-received a e = told (demand2-block-decrypts-under words bytes way way′ permitted src out out′ below e (accepts (readable-encryptBlock words way src out) a small))
+  demand2-block-decrypts-under-received a e = number-and-output (demand2-block-decrypts-under words bytes way way′ permitted src out out′ below e (accepts (readable-encryptBlock words way src out) a small))
 
   pub demand2-block-encrypts-under-received : Answers (decryptBlockCall words way src out) out r exit → length out′ ≡ 16
       → Answers (encryptBlockCall words way′ exit out′) out′ r′ exit′ → (r′ ≡ r) × (exit′ ≡ src)
-  demand2-block-encrypts-under-received a e = told (demand2-block-encrypts-under words bytes way way′ permitted src out out′ below e (accepts (readable-decryptBlock words way src out) a small))
+  demand2-block-encrypts-under-received a e = number-and-output (demand2-block-encrypts-under words bytes way way′ permitted src out out′ below e (accepts (readable-decryptBlock words way src out) a small))
 
 -- ---- demand 3: the two lent outputs at exit, where both numbers are below 2 ^ 32
 
@@ -152,7 +152,7 @@ accepted-outcome e = subst Accepted (sym e) (accepting _ _)
 
 pub demand3-under-received : (words : List ℕ) → Below 256 words → (way way′ : ℕ) (a b out out′ : List ℕ) → Below 256 a → Below 256 b → {r r′ : ℕ} {x y : List ℕ}
     → Answers (encryptBookCall words way a out) out r x → r < 2 ^ 32
-    → Answers (encryptBookCall words way′ b out′) out′ r′ y → r′ < 2 ^ 32 → EncryptedAlike (encryptUnder (lentWords words)) a b x y
+    → Answers (encryptBookCall words way′ b out′) out′ r′ y → r′ < 2 ^ 32 → EncryptedAlike (encryptUnder (wordsFromBytes words)) a b x y
 demand3-under-received words bytes way way′ a b out out′ ra rb pa ha pb hb =
     rw (pa .output, pb .output)
     (demand3-under words bytes way way′ a b out out′ ra rb
@@ -164,7 +164,7 @@ demand3-under-received words bytes way way′ a b out out′ ra rb pa ha pb hb =
 module _ (words : List ℕ) (way way′ : ℕ) (counter : List ℕ) {r r′ : ℕ} {x y : List ℕ} where
   pub note-comes-back-under-received : Way way′ → (note out out′ : List ℕ) → Answers (cryptNoteCall words way counter note out) out r x → r < 2 ^ 32 → length out′ ≡ length note
       → Answers (cryptNoteCall words way′ counter x out′) out′ r′ y → (r′ ≡ r) × (y ≡ note)
-  note-comes-back-under-received permitted note out out′ a h e = told (note-comes-back-under words way way′ counter permitted note out out′ (accepts (readable-cryptNote words way counter note out) a h) e)
+  note-comes-back-under-received permitted note out out′ a h e = number-and-output (note-comes-back-under words way way′ counter permitted note out out′ (accepts (readable-cryptNote words way counter note out) a h) e)
 
   pub notes-alike-under-received : (a b out out′ : List ℕ) → Answers (cryptNoteCall words way counter a out) out r x → r < 2 ^ 32
       → Answers (cryptNoteCall words way′ counter b out′) out′ r′ y → r′ < 2 ^ 32 → (x ≡ y) ↔ (a ≡ b)
@@ -210,7 +210,7 @@ pub demand3-received : (key : List ℕ) → Below 256 key → {words words′ : 
     → Answers (encryptBookCall words′ way′ b out′) out′ r′ y → r′ < 2 ^ 32 → EncryptedAlike (encrypt key) a b x y
 unfolding encrypt
 demand3-received key bytes {words} lent lent′ way way′ a b out out′ ra rb pa ha pb hb =
-    rw (lent-expanded bytes lent) at
+    rw (words-expanded bytes lent) at
     (demand3-under-received words (expanded-bytes lent) way way′ a b out out′ ra rb pa ha (as-first lent lent′ (λ (w : List ℕ). encryptBookCall w way′ b out′) pb) hb)
 
 module _ (key : List ℕ) {words words′ : List ℕ} (lent : Expanded key words) (lent′ : Expanded key words′) (way way′ : ℕ) (counter : List ℕ) {r r′ : ℕ} {x y : List ℕ} where

@@ -11,7 +11,7 @@ use lib.Seq.{drop-drop, length-take-le}
 use Rattle.clefia_spec.specs.Cases.{both-true}
 use Rattle.clefia_spec.specs.Words.{Below}
 use Rattle.clefia_laws.specs.DigitLaws.{below-take, below-drop}
-use Rattle.clefia_laws.specs.RowLaws.{Bytes}
+use Rattle.clefia_laws.specs.SizedLaws.{Bytes}
 use Rattle.planbook_spec.specs.Book.{pieces, trial, count, replicates, entryHolds, entriesHold, sheetHolds, sheetCount, contents, bodies, recordCount, sheetEntry, sheetBody, sheetsHold, asItIs}
 use Rattle.planbook_laws.specs.BookLaws.{Formed}
 

@@ -9,12 +9,12 @@ use lib.ListN.{length}
 use Rattle.clefia_spec.specs.Words.{bytesOf, byKeyLength, KeyLength, sixteen, twentyFour, thirtyTwo, Below}
 use Rattle.clefia_spec.specs.KeySchedule.{expandKey}
 use Rattle.clefia_spec.specs.Block.{encrypt, decrypt}
-use Rattle.clefia_laws.specs.RowLaws.{Row}
+use Rattle.clefia_laws.specs.SizedLaws.{Words}
 use Rattle.clefia_laws.specs.DigitLaws.{length-digitsOf, numbers-digits, below-digitsOf}
-use Rattle.clefia_laws.specs.KeyLaws.{row-expandKey}
+use Rattle.clefia_laws.specs.KeyLaws.{words-expandKey}
 use Rattle.planbook_spec.specs.Outcome.{Outcome, accepted, Check, judged}
 use Rattle.planbook_spec.specs.OutcomeLaws.{judged-append, judged-pass, passed}
-use Rattle.planbook_spec.specs.Checks.{wayCheck, wordsCheck, lentWords, wordsAndWay, expandKeyCall, blockChecks, encryptBlockCall, decryptBlockCall}
+use Rattle.planbook_spec.specs.Checks.{wayCheck, wordsCheck, wordsFromBytes, wordsAndWay, expandKeyCall, blockChecks, encryptBlockCall, decryptBlockCall}
 use Rattle.planbook_laws.specs.CheckLaws.{key-permitted, WordsLength, forty, fortyEight, fiftySix, words-passes}
 use Rattle.planbook_spec.specs.Book.{bookChecks, encryptBookBy, decryptBookBy, encryptBookCall, decryptBookCall}
 use Rattle.planbook_spec.specs.Note.{noteChecks, cryptNoteBy, cryptNoteCall}
@@ -40,8 +40,8 @@ expanded-bytes {key} e = subst (Below 256) (expanded-is e) (below-digitsOf (lit<
 
 -- How many words they are, and that a call reads the very words of the definition out of the bytes.
 module _ {key words : List ℕ} (bytes : Below 256 key) (e : Expanded key words) where
-  row : Row (byKeyLength (length key) 40 48 56) (expandKey key)
-  row = row-expandKey (expanded-key e) bytes
+  row : Words (byKeyLength (length key) 40 48 56) (expandKey key)
+  row = words-expandKey (expanded-key e) bytes
 
   byte-count : length words ≡ byKeyLength (length key) 40 48 56 * 4
   byte-count = ap length (sym (expanded-is e)) ∙ length-digitsOf 256 4 (expandKey key) ∙ ap (λ (n : ℕ). n * 4) (row .size)
@@ -54,9 +54,9 @@ module _ {key words : List ℕ} (bytes : Below 256 key) (e : Expanded key words)
       permitted twentyFour = fortyEight
       permitted thirtyTwo = fiftySix
 
-  pub lent-expanded : lentWords words ≡ expandKey key
-  unfolding lentWords
-  lent-expanded =
+  pub words-expanded : wordsFromBytes words ≡ expandKey key
+  unfolding wordsFromBytes
+  words-expanded =
       let count : length words / 4 ≡ length (expandKey key) = omega (arith, byte-count, row .size) in
       rw (count, ← expanded-is e) (numbers-digits (lit< tt) 4 (row .below))
 
@@ -67,22 +67,22 @@ module _ {key words : List ℕ} (bytes : Below 256 key) (e : Expanded key words)
   pub encryptBlock-under-key : (way : ℕ) (block out : List ℕ)
       → encryptBlockCall words way block out ≡ judged (blockChecks (wayCheck way ∷ []) block out) (accepted 1 (encrypt key block))
   unfolding encryptBlockCall blockChecks encrypt
-  encryptBlock-under-key way block out = rw (words-left-out way, lent-expanded)
+  encryptBlock-under-key way block out = rw (words-left-out way, words-expanded)
 
   pub decryptBlock-under-key : (way : ℕ) (block out : List ℕ)
       → decryptBlockCall words way block out ≡ judged (blockChecks (wayCheck way ∷ []) block out) (accepted 1 (decrypt key block))
   unfolding decryptBlockCall blockChecks decrypt
-  decryptBlock-under-key way block out = rw (words-left-out way, lent-expanded)
+  decryptBlock-under-key way block out = rw (words-left-out way, words-expanded)
 
   pub encryptBook-under-key : (way : ℕ) (book out : List ℕ) → encryptBookCall words way book out ≡ encryptBookBy (wayCheck way ∷ []) (encrypt key) book out
   unfolding encryptBookCall encryptBookBy bookChecks encrypt
-  encryptBook-under-key way book out = rw (words-left-out way, lent-expanded)
+  encryptBook-under-key way book out = rw (words-left-out way, words-expanded)
 
   pub decryptBook-under-key : (way : ℕ) (book out : List ℕ) → decryptBookCall words way book out ≡ decryptBookBy (wayCheck way ∷ []) (decrypt key) book out
   unfolding decryptBookCall decryptBookBy bookChecks decrypt
-  decryptBook-under-key way book out = rw (words-left-out way, lent-expanded)
+  decryptBook-under-key way book out = rw (words-left-out way, words-expanded)
 
   pub cryptNote-under-key : (way : ℕ) (counter note out : List ℕ)
       → cryptNoteCall words way counter note out ≡ cryptNoteBy (wayCheck way ∷ []) (encrypt key) counter note out
   unfolding cryptNoteCall cryptNoteBy noteChecks encrypt
-  cryptNote-under-key way counter note out = rw (words-left-out way, lent-expanded)
+  cryptNote-under-key way counter note out = rw (words-left-out way, words-expanded)

@@ -7,7 +7,7 @@ use lib.ListN.{length, take, drop, take-append-drop}
 use lib.Seq.{take-at, drop-at}
 use Rattle.clefia_spec.specs.Words.{xors, none}
 use Rattle.clefia_laws.specs.DigitLaws.{xors-cancel}
-use Rattle.clefia_laws.specs.RowLaws.{Bytes, sized-append, sized-take, sized-drop, sized-xors, Undone}
+use Rattle.clefia_laws.specs.SizedLaws.{Bytes, sized-append, sized-take, sized-drop, sized-xors, Undone}
 use Rattle.planbook_spec.specs.Book.{count, iv, recordCount, eachBody, sheetsHold, asItIs, cbcEncrypt, cbcDecrypt, encryptBody, decryptBody}
 
 -- E and D encrypt and decrypt blocks of 16 bytes: each takes the other back.
@@ -115,22 +115,22 @@ module _ {f g h : List ℕ → List ℕ → List ℕ} where
       sized-append (16 * count e) (16 * recordCount es) (t .keeps _ (first-body e es b)) (each-keeps r _ (other-bodies e es b)) (omega arith)
 
   -- The first coded body and the others, cut apart again.
-  coded-first : (e : List ℕ) (es : List (List ℕ)) (bs : List ℕ) → Through f g h e → Bytes (16 * recordCount (e ∷ es)) bs
+  crypted-first : (e : List ℕ) (es : List (List ℕ)) (bs : List ℕ) → Through f g h e → Bytes (16 * recordCount (e ∷ es)) bs
       → take (16 * count e) (eachBody f (e ∷ es) bs) ≡ f e (take (16 * count e) bs)
   unfolding eachBody
-  coded-first e es bs t b = take-at _ _ (16 * count e) (t .keeps _ (first-body e es b) .size)
+  crypted-first e es bs t b = take-at _ _ (16 * count e) (t .keeps _ (first-body e es b) .size)
 
-  coded-others : (e : List ℕ) (es : List (List ℕ)) (bs : List ℕ) → Through f g h e → Bytes (16 * recordCount (e ∷ es)) bs
+  crypted-others : (e : List ℕ) (es : List (List ℕ)) (bs : List ℕ) → Through f g h e → Bytes (16 * recordCount (e ∷ es)) bs
       → drop (16 * count e) (eachBody f (e ∷ es) bs) ≡ eachBody f es (drop (16 * count e) bs)
   unfolding eachBody
-  coded-others e es bs t b = drop-at (f e (take (16 * count e) bs)) _ (16 * count e) (t .keeps _ (first-body e es b) .size)
+  crypted-others e es bs t b = drop-at (f e (take (16 * count e) bs)) _ (16 * count e) (t .keeps _ (first-body e es b) .size)
 
   pub each-through : {es : List (List ℕ)} → Every (Through f g h) es → (bs : List ℕ) → Bytes (16 * recordCount es) bs
       → eachBody g es (eachBody f es bs) ≡ eachBody h es bs
   unfolding eachBody
   each-through nothing bs b = refl
   each-through (both {e = e} {es = es} t r) bs b =
-      rw (coded-first e es bs t b, coded-others e es bs t b, t .meets _ (first-body e es b), each-through r _ (other-bodies e es b))
+      rw (crypted-first e es bs t b, crypted-others e es bs t b, t .meets _ (first-body e es b), each-through r _ (other-bodies e es b))
 
   -- A rule of the records, looked at after g of the coded bodies, is the rule looked at after h.
   pub sheets-through : {es : List (List ℕ)} → Every (Through f g h) es → (bs : List ℕ) → Bytes (16 * recordCount es) bs
@@ -138,7 +138,7 @@ module _ {f g h : List ℕ → List ℕ → List ℕ} where
   unfolding sheetsHold
   sheets-through nothing bs b = refl
   sheets-through (both {e = e} {es = es} t r) bs b =
-      rw (coded-first e es bs t b, coded-others e es bs t b, t .meets _ (first-body e es b), sheets-through r _ (other-bodies e es b))
+      rw (crypted-first e es bs t b, crypted-others e es bs t b, t .meets _ (first-body e es b), sheets-through r _ (other-bodies e es b))
 
 module _ (E D : List ℕ → List ℕ) (block : BlockCipher E D) where
   pub body-encrypted : (e : List ℕ) → Bytes 16 (iv e) → Through (encryptBody E) (decryptBody D) asItIs e

@@ -9,7 +9,7 @@ use native.Mathlib.Omega.{arith}
 use lib.ListN.{length, getD, set, take, drop, length-drop}
 use lib.Seq.{drop-drop, getD-drop, take-add}
 use Rattle.clefia_spec.specs.Words.{fromDigits, xors}
-use Rattle.planbook_spec.specs.Book.{number, pieces, count, recordHolds, allRecordsHold, sheetHolds, sheetCount, contents, bodies, recordCount, eachBody, sheetsHold, cbcEncrypt, cbcDecrypt, recoded}
+use Rattle.planbook_spec.specs.Book.{number, pieces, count, recordHolds, allRecordsHold, sheetHolds, sheetCount, contents, bodies, recordCount, eachBody, sheetsHold, cbcEncrypt, cbcDecrypt, mapBodies}
 
 -- ---- numbers
 
@@ -109,13 +109,13 @@ pub bodies-at : (book : List ℕ) → bodies book ≡ drop (4 + 24 * sheetCount 
 bodies-at book = drop-drop (24 * sheetCount book) 4 book
 
 -- The head and the contents in one: the first 4 + 24n bytes of the book, with another first byte.
-pub recoded-front : (mark : ℕ) (f : List ℕ → List ℕ → List ℕ) (book : List ℕ) → 4 ≤ length book
-    → recoded mark f book ≡ set (take (4 + 24 * sheetCount book) book) 0 mark ++ eachBody f (contents book) (drop (4 + 24 * sheetCount book) book)
-unfolding recoded
-recoded-front mark f book h =
+pub mapBodies-front : (kind : ℕ) (f : List ℕ → List ℕ → List ℕ) (book : List ℕ) → 4 ≤ length book
+    → mapBodies kind f book ≡ set (take (4 + 24 * sheetCount book) book) 0 kind ++ eachBody f (contents book) (drop (4 + 24 * sheetCount book) book)
+unfolding mapBodies
+mapBodies-front kind f book h =
     rw (take-add 4 (24 * sheetCount book) book, ← bodies-at book)
-    (sym (append-assoc (mark ∷ take 3 (drop 1 book)) (take (24 * sheetCount book) (drop 4 book)) _) ∙ ap (λ (l : List ℕ). l ++ eachBody f (contents book) (bodies book)) (front book h))
+    (sym (append-assoc (kind ∷ take 3 (drop 1 book)) (take (24 * sheetCount book) (drop 4 book)) _) ∙ ap (λ (l : List ℕ). l ++ eachBody f (contents book) (bodies book)) (front book h))
   where
-    front : (l : List ℕ) → 4 ≤ length l → mark ∷ take 3 (drop 1 l) ++ take (24 * sheetCount book) (drop 4 book) ≡ set (take 4 l ++ take (24 * sheetCount book) (drop 4 book)) 0 mark
+    front : (l : List ℕ) → 4 ≤ length l → kind ∷ take 3 (drop 1 l) ++ take (24 * sheetCount book) (drop 4 book) ≡ set (take 4 l ++ take (24 * sheetCount book) (drop 4 book)) 0 kind
     front [] k = absurd (omega arith)
     front (a ∷ l) k = refl

@@ -8,8 +8,8 @@ use lib.Seq.{sets}
 use Rattle.clefia_spec.specs.Words.{fromDigits, toDigits, numbersOf, xors}
 use Rattle.clefia_spec.specs.Cases.{Case, _gives_, AllHold, allSame, computed}
 use Rattle.planbook_spec.specs.Outcome.{answer, after, judged}
-use Rattle.planbook_spec.specs.Checks.{keyCheck, wayCheck, blockCheck, outputCheck, wordsCheck, lentWords, constantCount, expandedCount, constantsCall, expandKeyCall, blockChecks, encryptBlockCall, decryptBlockCall}
-use Rattle.planbook_spec.specs.Book.{number, pieces, replicates, entryHolds, entriesHold, plotHolds, recordHolds, allRecordsHold, recordCount, formChecks, eachBody, sheetsHold, recordsCheck, cbcEncrypt, cbcDecrypt, encryptBody, decryptBody, recoded, bookChecks, encryptBookBy, decryptBookBy, encryptBookCall, decryptBookCall}
+use Rattle.planbook_spec.specs.Checks.{keyCheck, wayCheck, blockCheck, outputCheck, wordsCheck, wordsFromBytes, constantCount, expandedCount, constantsCall, expandKeyCall, blockChecks, encryptBlockCall, decryptBlockCall}
+use Rattle.planbook_spec.specs.Book.{number, pieces, replicates, entryHolds, entriesHold, plotHolds, recordHolds, allRecordsHold, recordCount, formChecks, eachBody, sheetsHold, recordsCheck, cbcEncrypt, cbcDecrypt, encryptBody, decryptBody, mapBodies, bookChecks, encryptBookBy, decryptBookBy, encryptBookCall, decryptBookCall}
 
 -- The toy: the bytes of a block rotated by one place.
 abbrev pub toyEncrypt : List ℕ → List ℕ
@@ -30,12 +30,12 @@ unfoldable pub rising : ℕ → ℕ → List ℕ
 rising zero v = []
 rising (suc n) v = v ∷ rising n (v + 1)
 
-abbrev pub entryOf : ℕ → ℕ → ℕ → List ℕ
-entryOf t n v = 0 ∷ 0 ∷ 0 ∷ t ∷ 0 ∷ n ∷ 0 ∷ 0 ∷ rising 16 v
+abbrev pub entryWith : ℕ → ℕ → ℕ → List ℕ
+entryWith t n v = 0 ∷ 0 ∷ 0 ∷ t ∷ 0 ∷ n ∷ 0 ∷ 0 ∷ rising 16 v
 
 -- A clear book of one record: trial 41, entry 7, replicate 2, in reserve. The entry stands at byte 4, the record at byte 28.
 abbrev pub small : List ℕ
-small = 1 ∷ 0 ∷ 0 ∷ 1 ∷ entryOf 41 1 0x10 ++ (0 ∷ 0 ∷ 0 ∷ 41 ∷ 0 ∷ 0 ∷ 0 ∷ 7 ∷ 2 ∷ replicate 7 0)
+small = 1 ∷ 0 ∷ 0 ∷ 1 ∷ entryWith 41 1 0x10 ++ (0 ∷ 0 ∷ 0 ∷ 41 ∷ 0 ∷ 0 ∷ 0 ∷ 7 ∷ 2 ∷ replicate 7 0)
 
 -- The same with byte 6 of its entry, the number of replicates, and with a replicate of its record.
 abbrev pub replicated : ℕ → ℕ → List ℕ
@@ -44,7 +44,7 @@ replicated b r = set (set small 10 b) 36 r
 -- What it is encrypted to.
 abbrev pub encryptedSmall : List ℕ
 encryptedSmall =
-    2 ∷ 0 ∷ 0 ∷ 1 ∷ entryOf 41 1 0x10
+    2 ∷ 0 ∷ 0 ∷ 1 ∷ entryWith 41 1 0x10
     ++ (0x11 ∷ 0x12 ∷ 0x3a ∷ 0x14 ∷ 0x15 ∷ 0x16 ∷ 0x10 ∷ 0x1a ∷ 0x19 ∷ 0x1a ∷ 0x1b ∷ 0x1c ∷ 0x1d ∷ 0x1e ∷ 0x1f ∷ 0x10 ∷ [])
 
 -- The four bytes of a row and a column. They stand at 37 in the clear book and, each added to its byte of the iv, at 36 in the encrypted one: the toy rotates.
@@ -60,7 +60,7 @@ plotAnswers row column =
 
 -- A clear book of two sheets, of two records and of one: entries at bytes 4 and 28, records at 52, 68 and 84.
 abbrev pub twoEntries : List ℕ
-twoEntries = entryOf 41 2 0x10 ++ entryOf 42 1 0x20
+twoEntries = entryWith 41 2 0x10 ++ entryWith 42 1 0x20
 
 abbrev pub large : List ℕ
 large =
@@ -162,7 +162,7 @@ bookCases =
     ∷ []
 
 pub bookCases-hold : AllHold bookCases
-unfolding bookCases rising allSame fromDigits toDigits xors answer after judged outputCheck number pieces replicates entryHolds entriesHold plotHolds recordHolds allRecordsHold recordCount formChecks eachBody sheetsHold recordsCheck cbcEncrypt cbcDecrypt encryptBody decryptBody recoded bookChecks encryptBookBy decryptBookBy
+unfolding bookCases rising allSame fromDigits toDigits xors answer after judged outputCheck number pieces replicates entryHolds entriesHold plotHolds recordHolds allRecordsHold recordCount formChecks eachBody sheetsHold recordsCheck cbcEncrypt cbcDecrypt encryptBody decryptBody mapBodies bookChecks encryptBookBy decryptBookBy
 bookCases-hold = computed bookCases refl
 
 -- What both calls for a block answer under words of w bytes, by a way, to a block of n bytes with an output of m; and both calls for a book, to one of n.
@@ -203,7 +203,7 @@ callCases =
     ∷ (answer (expandKeyCall (replicate 32 0) 3 (replicate 192 0)) ∷ [] gives 4 * 2 ^ 32 ∷ [])
     -- words, the highest byte first, as many as there are; 14: the lengths of keys, the counts of words, one byte beside each permitted length, whole words between
     -- them, and one that is permitted where it is cut to eight bits; and the three permitted ones
-    ∷ (lentWords (rising 12 1) gives 0x01020304 ∷ 0x05060708 ∷ 0x090a0b0c ∷ [])
+    ∷ (wordsFromBytes (rising 12 1) gives 0x01020304 ∷ 0x05060708 ∷ 0x090a0b0c ∷ [])
     ∷ (lengthsAnswers (0 ∷ 16 ∷ 24 ∷ 32 ∷ 40 ∷ 48 ∷ 56 ∷ 159 ∷ 161 ∷ 176 ∷ 191 ∷ 193 ∷ 208 ∷ 223 ∷ 225 ∷ 416 ∷ []) gives replicate 32 (14 * 2 ^ 32))
     ∷ (lengthsAnswers (160 ∷ 192 ∷ 224 ∷ []) gives replicate 6 1)
     -- blocks: 14, 2, 3, 4
@@ -223,5 +223,5 @@ callCases =
     ∷ []
 
 pub callCases-hold : AllHold callCases
-unfolding callCases rising lengthsAnswers allSame fromDigits numbersOf answer judged keyCheck wayCheck blockCheck outputCheck wordsCheck lentWords constantCount expandedCount constantsCall expandKeyCall blockChecks encryptBlockCall decryptBlockCall formChecks bookChecks encryptBookBy decryptBookBy encryptBookCall decryptBookCall
+unfolding callCases rising lengthsAnswers allSame fromDigits numbersOf answer judged keyCheck wayCheck blockCheck outputCheck wordsCheck wordsFromBytes constantCount expandedCount constantsCall expandKeyCall blockChecks encryptBlockCall decryptBlockCall formChecks bookChecks encryptBookBy decryptBookBy encryptBookCall decryptBookCall
 callCases-hold = computed callCases refl

@@ -11,7 +11,7 @@ use lib.ListN.{length, getD, take, drop}
 use Rattle.clefia_spec.specs.Words.{choose, fromDigits, xors}
 use Rattle.clefia_spec.specs.Block.{encryptUnder, decryptUnder}
 use Rattle.planbook_spec.specs.Outcome.{Outcome, accepted, Check, check, judged}
-use Rattle.planbook_spec.specs.Checks.{outputCheck, lentWords, wordsAndWay}
+use Rattle.planbook_spec.specs.Checks.{outputCheck, wordsFromBytes, wordsAndWay}
 
 -- The number that k bytes write, from byte `at` on.
 unfoldable pub number : ℕ → ℕ → List ℕ → ℕ
@@ -110,9 +110,9 @@ sheetBody i book = take (16 * count (sheetEntry i book)) (drop (16 * recordCount
 
 -- Checks 5 to 10, of a book's form; mark is the first byte that the call permits.
 unfoldable pub formChecks : ℕ → List ℕ → List Check
-formChecks mark book =
+formChecks kind book =
     check 5 (leb 4 (length book) && leb (length book) 65532)
-    ∷ check 6 (eqb (getD book 0 0) mark && eqb (getD book 1 0) 0)
+    ∷ check 6 (eqb (getD book 0 0) kind && eqb (getD book 1 0) 0)
     ∷ check 7 (leb (sheetCount book) 64)
     ∷ check 8 (leb (4 + 24 * sheetCount book) (length book))
     ∷ check 9 (entriesHold 0 (contents book))
@@ -154,38 +154,38 @@ unfoldable pub decryptBody : (List ℕ → List ℕ) → List ℕ → List ℕ �
 decryptBody D e body = cbcDecrypt D (count e) (iv e) body
 
 -- A book with another first byte, the rest of its head and its contents as they were, and each body put through f where it stood.
-unfoldable pub recoded : ℕ → (List ℕ → List ℕ → List ℕ) → List ℕ → List ℕ
-recoded mark f book = mark ∷ take 3 (drop 1 book) ++ (take (24 * sheetCount book) (drop 4 book) ++ eachBody f (contents book) (bodies book))
+unfoldable pub mapBodies : ℕ → (List ℕ → List ℕ → List ℕ) → List ℕ → List ℕ
+mapBodies kind f book = kind ∷ take 3 (drop 1 book) ++ (take (24 * sheetCount book) (drop 4 book) ++ eachBody f (contents book) (bodies book))
 
 -- Checks 5 to 11, which look at the book alone: a call may have check 4 before them or after them.
 abbrev pub formAndRecords : ℕ → (List ℕ → List ℕ → List ℕ) → List ℕ → List Check
-formAndRecords mark f book = formChecks mark book ++ (recordsCheck f book ∷ [])
+formAndRecords kind f book = formChecks kind book ++ (recordsCheck f book ∷ [])
 
 -- The checks of a call on a whole book: some list cs about words and way, then 4, and 5 to 11.
 unfoldable pub bookChecks : List Check → ℕ → (List ℕ → List ℕ → List ℕ) → List ℕ → List ℕ → List Check
-bookChecks cs mark f book out = cs ++ (outputCheck (length book) out ∷ formAndRecords mark f book)
+bookChecks cs kind f book out = cs ++ (outputCheck (length book) out ∷ formAndRecords kind f book)
 
 -- A book encrypted and decrypted by any E and D: the count is R. In a book to be decrypted, check 11 looks at the records after the chain is undone.
 unfoldable pub encryptBookBy : List Check → (List ℕ → List ℕ) → List ℕ → List ℕ → Outcome
 encryptBookBy cs E book out =
-    judged (bookChecks cs 1 asItIs book out) (accepted (recordCount (contents book)) (recoded 2 (encryptBody E) book))
+    judged (bookChecks cs 1 asItIs book out) (accepted (recordCount (contents book)) (mapBodies 2 (encryptBody E) book))
 
 unfoldable pub decryptBookBy : List Check → (List ℕ → List ℕ) → List ℕ → List ℕ → Outcome
 decryptBookBy cs D book out =
-    judged (bookChecks cs 2 (decryptBody D) book out) (accepted (recordCount (contents book)) (recoded 1 (decryptBody D) book))
+    judged (bookChecks cs 2 (decryptBody D) book out) (accepted (recordCount (contents book)) (mapBodies 1 (decryptBody D) book))
 
 -- The book that a clear book must become when it is sealed by E, the cipher under given words or under a key; made from E and the clear book alone: no way enters. In each
 -- sheet the first record, added to the iv, is encrypted by E, and each later record likewise, added to the encrypted record before it.
 unfoldable pub encryptedBook : (List ℕ → List ℕ) → List ℕ → List ℕ
-encryptedBook E book = recoded 2 (encryptBody E) book
+encryptedBook E book = mapBodies 2 (encryptBody E) book
 
 -- The inverse (opening).
 unfoldable pub decryptedBook : (List ℕ → List ℕ) → List ℕ → List ℕ
-decryptedBook D book = recoded 1 (decryptBody D) book
+decryptedBook D book = mapBodies 1 (decryptBody D) book
 
 -- A book sealed and opened under words: checks 14, 2, 4, 5 to 10, 11; then R, and the book.
 unfoldable pub encryptBookCall : List ℕ → ℕ → List ℕ → List ℕ → Outcome
-encryptBookCall words way book out = encryptBookBy (wordsAndWay words way) (encryptUnder (lentWords words)) book out
+encryptBookCall words way book out = encryptBookBy (wordsAndWay words way) (encryptUnder (wordsFromBytes words)) book out
 
 unfoldable pub decryptBookCall : List ℕ → ℕ → List ℕ → List ℕ → Outcome
-decryptBookCall words way book out = decryptBookBy (wordsAndWay words way) (decryptUnder (lentWords words)) book out
+decryptBookCall words way book out = decryptBookBy (wordsAndWay words way) (decryptUnder (wordsFromBytes words)) book out

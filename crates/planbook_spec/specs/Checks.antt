@@ -33,8 +33,8 @@ unfoldable pub wordsCheck : ℕ → Check
 wordsCheck byteCount = check 14 (eqb byteCount 160 || eqb byteCount 192 || eqb byteCount 224)
 
 -- The words that such bytes write, the highest byte first.
-unfoldable pub lentWords : List ℕ → List ℕ
-lentWords words = wordsOf (length words / 4) words
+unfoldable pub wordsFromBytes : List ℕ → List ℕ
+wordsFromBytes words = wordsOf (length words / 4) words
 
 -- Checks 1 and 2, with which the call that takes a key begins; and 14 and 2, with which every call that takes words begins.
 abbrev pub keyAndWay : List ℕ → ℕ → List Check
@@ -68,7 +68,7 @@ blockChecks cs block out = cs ++ (blockCheck block ∷ outputCheck 16 out ∷ []
 
 -- One block encrypted (document 01's term: sealed) and decrypted (opened) under words: checks 14, 2, 3, 4; the count is 1.
 unfoldable pub encryptBlockCall : List ℕ → ℕ → List ℕ → List ℕ → Outcome
-encryptBlockCall words way block out = judged (blockChecks (wordsAndWay words way) block out) (accepted 1 (encryptUnder (lentWords words) block))
+encryptBlockCall words way block out = judged (blockChecks (wordsAndWay words way) block out) (accepted 1 (encryptUnder (wordsFromBytes words) block))
 
 unfoldable pub decryptBlockCall : List ℕ → ℕ → List ℕ → List ℕ → Outcome
-decryptBlockCall words way block out = judged (blockChecks (wordsAndWay words way) block out) (accepted 1 (decryptUnder (lentWords words) block))
+decryptBlockCall words way block out = judged (blockChecks (wordsAndWay words way) block out) (accepted 1 (decryptUnder (wordsFromBytes words) block))

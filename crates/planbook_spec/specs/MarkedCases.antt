@@ -6,13 +6,13 @@ use Rattle.clefia_spec.specs.Words.{complement, rotate, fromDigits, toDigits, d
 use Rattle.clefia_spec.specs.Constants.{divideByZ, evenConstant, oddConstant, constantsFrom, firstT, constants}
 use Rattle.clefia_spec.specs.Field.{double, double8, addProduct, product, squares, inverse}
 use Rattle.clefia_spec.specs.Sbox.{ss0, ss1, ss2, ss3, s0, s1, bitOf, sumOfBits, affine, fRows, gRows}
-use Rattle.clefia_spec.specs.FFunction.{m0, m1, entry, rowTimes, matrixTimes, substitute, f0, f1}
+use Rattle.clefia_spec.specs.FFunction.{m0, m1, matrixEntry, rowTimes, matrixTimes, substitute, f0, f1}
 use Rattle.clefia_spec.specs.Network.{feistel, rotateBranches, rounds}
 use Rattle.clefia_spec.specs.KeySchedule.{bitRange, doubleSwapBits, doubleSwap}
 use Rattle.clefia_spec.specs.Cases.{Case, _gives_, AllHold, allSame, computed}
 use Rattle.planbook_spec.specs.Outcome.{Outcome, answer, after, judged}
 use Rattle.planbook_spec.specs.Checks.{wayCheck, outputCheck, wordsCheck}
-use Rattle.planbook_spec.specs.Book.{number, pieces, entriesHold, recordCount, formChecks, eachBody, sheetsHold, recordsCheck, recoded, bookChecks, encryptBookBy, encryptBookCall}
+use Rattle.planbook_spec.specs.Book.{number, pieces, entriesHold, recordCount, formChecks, eachBody, sheetsHold, recordsCheck, mapBodies, bookChecks, encryptBookBy, encryptBookCall}
 
 -- The empty book, sealed by way 1. It has no record, so the words do not matter: 40 of them, all zero.
 abbrev pub emptyEncrypted : Outcome
@@ -38,5 +38,5 @@ markedCases =
     ∷ []
 
 pub markedCases-hold : AllHold markedCases
-unfolding markedCases allSame complement rotate fromDigits toDigits digitsOf numbersOf divideByZ evenConstant oddConstant constantsFrom firstT constants double addProduct product squares inverse ss0 ss1 ss2 ss3 s0 s1 bitOf sumOfBits affine fRows gRows m0 m1 entry rowTimes matrixTimes substitute f0 f1 feistel rotateBranches rounds bitRange doubleSwapBits doubleSwap answer after judged wayCheck outputCheck wordsCheck number pieces entriesHold recordCount formChecks eachBody sheetsHold recordsCheck recoded bookChecks encryptBookBy encryptBookCall
+unfolding markedCases allSame complement rotate fromDigits toDigits digitsOf numbersOf divideByZ evenConstant oddConstant constantsFrom firstT constants double addProduct product squares inverse ss0 ss1 ss2 ss3 s0 s1 bitOf sumOfBits affine fRows gRows m0 m1 matrixEntry rowTimes matrixTimes substitute f0 f1 feistel rotateBranches rounds bitRange doubleSwapBits doubleSwap answer after judged wayCheck outputCheck wordsCheck number pieces entriesHold recordCount formChecks eachBody sheetsHold recordsCheck mapBodies bookChecks encryptBookBy encryptBookCall
 markedCases-hold = computed markedCases refl

@@ -7,7 +7,7 @@ use lib.ListN.{length, take}
 use Rattle.clefia_spec.specs.Words.{toDigits, xors}
 use Rattle.clefia_spec.specs.Block.{encryptUnder}
 use Rattle.planbook_spec.specs.Outcome.{Outcome, accepted, Check, check, judged}
-use Rattle.planbook_spec.specs.Checks.{blockCheck, outputCheck, lentWords, wordsAndWay}
+use Rattle.planbook_spec.specs.Checks.{blockCheck, outputCheck, wordsFromBytes, wordsAndWay}
 use Rattle.planbook_spec.specs.Book.{number}
 
 -- Counter block i of a note, from 0 on, where `counter` is the block that the caller gives. Its first twelve bytes stay. The last four count blocks: the
@@ -43,4 +43,4 @@ cryptNoteBy cs E counter note out = judged (noteChecks cs counter note out) (acc
 
 -- Under words: checks 14, 2, 3, 4, 12.
 unfoldable pub cryptNoteCall : List ℕ → ℕ → List ℕ → List ℕ → List ℕ → Outcome
-cryptNoteCall words way counter note out = cryptNoteBy (wordsAndWay words way) (encryptUnder (lentWords words)) counter note out
+cryptNoteCall words way counter note out = cryptNoteBy (wordsAndWay words way) (encryptUnder (wordsFromBytes words)) counter note out

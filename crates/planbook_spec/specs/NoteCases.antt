@@ -31,8 +31,8 @@ encryptedText =
     ++ (0xb1 ∷ 0xb3 ∷ 0xb1 ∷ 0xb7 ∷ 0xb1 ∷ 0xb3 ∷ 0xb1 ∷ 0xbf ∷ 0xb1 ∷ 0xb3 ∷ 0xb1 ∷ 0xab ∷ 0xac ∷ 0xad ∷ 0xaf ∷ 0xbf ∷ [])
     ++ (0xa1 ∷ 0xa3 ∷ 0xa1 ∷ 0xa7 ∷ 0xa1 ∷ 0xa3 ∷ 0xa1 ∷ 0xaf ∷ 0xa1 ∷ 0xa3 ∷ 0xa1 ∷ 0xbb ∷ 0xbc ∷ 0xbd ∷ 0xbc ∷ 0xaf ∷ [])
 
-abbrev pub crypted : List ℕ → List ℕ
-crypted note = ctr toyEncrypt (counterFrom 0xffffffff) note
+abbrev pub toyNote : List ℕ → List ℕ
+toyNote note = ctr toyEncrypt (counterFrom 0xffffffff) note
 
 pub noteCases : List Case
 noteCases =
@@ -48,13 +48,13 @@ noteCases =
     gives 0 ∷ 1 ∷ 1 ∷ 1 ∷ 2 ∷ 3 ∷ 4 ∷ [])
     ∷ (keystream toyEncrypt (counterFrom 6) 1 2 gives rising 11 0x11 ++ (0 ∷ 0 ∷ 0 ∷ 7 ∷ 0x10 ∷ []) ++ rising 11 0x11 ++ (0 ∷ 0 ∷ 0 ∷ 8 ∷ 0x10 ∷ []))
     -- notes of these lengths
-    ∷ (crypted [] gives [])
-    ∷ (crypted (0x80 ∷ []) gives 0x91 ∷ [])
-    ∷ (crypted (take 15 text) gives take 15 encryptedText)
-    ∷ (crypted (take 16 text) gives take 16 encryptedText)
-    ∷ (crypted (take 17 text) gives take 17 encryptedText)
-    ∷ (crypted (take 33 text) gives take 33 encryptedText)
-    ∷ (crypted text gives encryptedText)
+    ∷ (toyNote [] gives [])
+    ∷ (toyNote (0x80 ∷ []) gives 0x91 ∷ [])
+    ∷ (toyNote (take 15 text) gives take 15 encryptedText)
+    ∷ (toyNote (take 16 text) gives take 16 encryptedText)
+    ∷ (toyNote (take 17 text) gives take 17 encryptedText)
+    ∷ (toyNote (take 33 text) gives take 33 encryptedText)
+    ∷ (toyNote text gives encryptedText)
     -- and back, through the call: the count is that of the bytes
     ∷ (answer (cryptNoteBy [] toyEncrypt (counterFrom 0xffffffff) text text) ∷ after text (cryptNoteBy [] toyEncrypt (counterFrom 0xffffffff) text text)
     gives 64 ∷ encryptedText)

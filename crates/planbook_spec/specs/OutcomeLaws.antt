@@ -46,8 +46,8 @@ pub record Judges (cs : List Check) (n : ℕ) (bs : List ℕ) (o : Outcome) : Ty
   pub accepts : (o ≡ accepted n bs) ↔ AllPass cs
   pub either : ((c : ℕ) × (o ≡ refused c)) ⊎ (o ≡ accepted n bs)
 
-never : {c n : ℕ} {bs : List ℕ} → refused c ≡ accepted n bs → ⊥
-never e = let z : _≡_ {A = ℕ} 0 1 = cc in omega arith
+refused-not-accepted : {c n : ℕ} {bs : List ℕ} → refused c ≡ accepted n bs → ⊥
+refused-not-accepted e = let z : _≡_ {A = ℕ} 0 1 = cc in omega arith
 
 refuses-first : (cs : List Check) (n : ℕ) (bs : List ℕ) (c : ℕ) → judged cs (accepted n bs) ≡ refused c → FirstFailure cs c
 unfolding judged
@@ -67,7 +67,7 @@ passed [] n bs e = record { checks = none; sameCount = cc; sameBytes = cc }
 passed (check d true ∷ cs) n bs e =
     let p : Passed cs n _ bs _ = passed cs n bs e in
     record { checks = more (p .checks); sameCount = p .sameCount; sameBytes = p .sameBytes }
-passed (check d false ∷ cs) n bs e = absurd (never e)
+passed (check d false ∷ cs) n bs e = absurd (refused-not-accepted e)
 
 pub judges : (cs : List Check) (n : ℕ) (bs : List ℕ) → Judges cs n bs (judged cs (accepted n bs))
 judges cs n bs =

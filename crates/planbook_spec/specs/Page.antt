@@ -29,13 +29,13 @@ abbrev pub numberField : ℕ → ℕ → List ℕ
 numberField w n = rightAligned w (decimal w n)
 
 -- A line: five fields, a space between any two of them, and a line feed, the character 10.
-abbrev pub joined : List ℕ → List ℕ → List ℕ → List ℕ → List ℕ → List ℕ
-joined a b c d e = a ++ (32 ∷ b ++ (32 ∷ c ++ (32 ∷ d ++ (32 ∷ e ++ (10 ∷ [])))))
+abbrev pub fields : List ℕ → List ℕ → List ℕ → List ℕ → List ℕ → List ℕ
+fields a b c d e = a ++ (32 ∷ b ++ (32 ∷ c ++ (32 ∷ d ++ (32 ∷ e ++ (10 ∷ [])))))
 
 -- The words TRIAL, ENTRY, R, ROW and COL over the fields.
 unfoldable pub heading : List ℕ
 heading =
-    joined (rightAligned 10 (84 ∷ 82 ∷ 73 ∷ 65 ∷ 76 ∷ []))
+    fields (rightAligned 10 (84 ∷ 82 ∷ 73 ∷ 65 ∷ 76 ∷ []))
     (rightAligned 10 (69 ∷ 78 ∷ 84 ∷ 82 ∷ 89 ∷ []))
     (rightAligned 1 (82 ∷ []))
     (rightAligned 3 (82 ∷ 79 ∷ 87 ∷ []))
@@ -44,7 +44,7 @@ heading =
 -- A record: trial, entry, replicate, row and column. Row and column of one in reserve are 0, and are shown so.
 unfoldable pub line : List ℕ → List ℕ
 line r =
-    joined (numberField 10 (recordTrial r))
+    fields (numberField 10 (recordTrial r))
     (numberField 10 (recordEntry r))
     (numberField 1 (recordReplicate r))
     (numberField 3 (recordRow r))

@@ -11,7 +11,7 @@ use Rattle.planbook_spec.specs.Outcome.{answer, after, judged}
 use Rattle.planbook_spec.specs.Checks.{outputCheck}
 use Rattle.planbook_spec.specs.Book.{number, pieces, replicates, entryHolds, entriesHold, plotHolds, recordHolds, allRecordsHold, recordCount, sheetEntry, sheetBody, formChecks, sheetsHold, recordsCheck}
 use Rattle.planbook_spec.specs.Page.{decimal, spaces, rightAligned, numberField, heading, line, lines, page, sheetCheck, pageChecks, pageCall}
-use Rattle.planbook_spec.specs.AnswerCases.{rising, entryOf, small, large, plot}
+use Rattle.planbook_spec.specs.AnswerCases.{rising, entryWith, small, large, plot}
 
 -- The book of the example: one record, of trial 41, entry 7, replicate 2, row 12 and column 3.
 abbrev pub example : List ℕ
@@ -23,7 +23,7 @@ greatest = sets (sets (set small 10 8) 4 (replicate 4 255)) 28 (replicate 8 255 
 
 -- The contents of three sheets, of two records, one and one, and bodies whose bytes all differ.
 abbrev pub three : List ℕ
-three = 1 ∷ 0 ∷ 0 ∷ 3 ∷ entryOf 41 2 0x10 ++ entryOf 42 1 0x20 ++ entryOf 43 1 0x30 ++ rising 64 0x80
+three = 1 ∷ 0 ∷ 0 ∷ 3 ∷ entryWith 41 2 0x10 ++ entryWith 42 1 0x20 ++ entryWith 43 1 0x30 ++ rising 64 0x80
 
 -- The call's answer, and its output where m bytes are lent.
 abbrev pub paged : List ℕ → ℕ → ℕ → ℕ
@@ -70,7 +70,7 @@ pageCases =
     ∷ (shown large 0 96 gives 3 ∷ headingBytes ++ exampleBytes ++ secondBytes)
     ∷ (shown large 1 64 gives 2 ∷ headingBytes ++ reserveBytes)
     -- the entry of a sheet, and its body
-    ∷ (sheetEntry 0 three ++ sheetEntry 2 three gives entryOf 41 2 0x10 ++ entryOf 43 1 0x30)
+    ∷ (sheetEntry 0 three ++ sheetEntry 2 three gives entryWith 41 2 0x10 ++ entryWith 43 1 0x30)
     ∷ (sheetBody 0 three gives rising 32 0x80)
     ∷ (sheetBody 1 three gives rising 16 0xa0)
     ∷ (sheetBody 2 three gives rising 16 0xb0)

@@ -8,15 +8,15 @@ use lib.ListN.{length, take, length-set}
 use lib.Seq.{take-all}
 use Rattle.clefia_spec.specs.Words.{xors}
 use Rattle.clefia_laws.specs.DigitLaws.{length-xors, getD-xors}
-use Rattle.rows.specs.Rows.{fill-one}
+use Rattle.cipher_bytes.specs.ListLaws.{fill-one}
 use Rattle.note_blocks.proofs.add_part.Statement.{statement}
 use Rattle.note_blocks.proofs.add_part.Tie as tie
 
 abbrev Inv-loop : tie.InvT-loop
-Inv-loop part out₀ bytes i₀ out i = (i ≤ length part) × (length out ≡ length part) × (take i out ≡ take i (xors bytes part))
+Inv-loop part out₀ byte-tables i₀ out i = (i ≤ length part) × (length out ≡ length part) × (take i out ≡ take i (xors byte-tables part))
 
 abbrev μ-loop : tie.MeasureT-loop
-μ-loop part out₀ bytes i₀ out i = length part - i
+μ-loop part out₀ byte-tables i₀ out i = length part - i
 
 loop-again : tie.Need-loop-again Inv-loop μ-loop
 loop-again c =

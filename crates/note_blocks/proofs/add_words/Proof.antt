@@ -1,7 +1,7 @@
 -- `note_blocks::add_words` meets its contract.
 use borrow.Author.Needs.{needs}
 use Rattle.clefia_spec.specs.Words.{toDigits, digitsOf, xors}
-use Rattle.rows.specs.Rows.{spelled, spell, putFour, wordAt, four-words}
+use Rattle.cipher_bytes.specs.ListLaws.{spelled, spell, putFour, wordAt, four-words}
 use Rattle.note_blocks.proofs.add_words.Statement.{statement}
 use Rattle.note_blocks.proofs.add_words.Tie as tie
 

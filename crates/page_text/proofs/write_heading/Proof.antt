@@ -5,7 +5,7 @@ use native.Mathlib.Omega.{arith}
 use borrow.Author.Needs.{needs}
 use lib.ListN.{length, take, length-set}
 use Rattle.planbook_spec.specs.Page.{spaces, rightAligned, heading}
-use Rattle.rows.specs.Rows.{fill-one}
+use Rattle.cipher_bytes.specs.ListLaws.{fill-one}
 use Rattle.page_text.proofs.write_heading.Statement.{statement}
 use Rattle.page_text.proofs.write_heading.Tie as tie
 

@@ -3,12 +3,12 @@ use mathlib.Core.Path.{_≡_}
 use native.Mathlib.Omega.{arith}
 use borrow.Author.Needs.{needs}
 use lib.ListN.{length, length-set}
-use Rattle.page_text.specs.Digits.{Written, written-start, written-next, written-end}
+use Rattle.page_text.specs.Digits.{DigitsWritten, written-start, written-next, written-end}
 use Rattle.page_text.proofs.write_number.Statement.{statement}
 use Rattle.page_text.proofs.write_number.Tie as tie
 
 abbrev Inv-loop : tie.InvT-loop
-Inv-loop out₀ n i₀ rest₀ out i rest = Written (length out₀) n i rest out
+Inv-loop out₀ n i₀ rest₀ out i rest = DigitsWritten (length out₀) n i rest out
 
 abbrev μ-loop : tie.MeasureT-loop
 μ-loop out₀ n i₀ rest₀ out i rest = i

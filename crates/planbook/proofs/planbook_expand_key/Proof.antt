@@ -1,6 +1,6 @@
 -- `planbook::planbook_expand_key` meets its contract: the number of the answer, and the output, of the call below.
 use borrow.Author.Needs.{needs}
-use Rattle.answer.specs.Answer.{answers}
+use Rattle.call_answer.specs.Answer.{answers}
 use Rattle.planbook.proofs.planbook_expand_key.Statement.{statement}
 use Rattle.planbook.proofs.planbook_expand_key.Tie as tie
 

@@ -1,0 +1,2 @@
+pub mod ClearBody
+pub mod Tested

@@ -1,0 +1,5 @@
+pub mod AndLaws
+pub mod RecordWords
+pub mod Entry
+pub mod EntryLaws
+pub mod Parts

@@ -1,2 +1,0 @@
-pub mod Clear
-pub mod Tested

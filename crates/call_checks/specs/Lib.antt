@@ -1,0 +1,3 @@
+pub mod CheckAnswers
+pub mod CheckTests
+pub mod FirstChecks

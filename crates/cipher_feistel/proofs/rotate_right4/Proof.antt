@@ -1,0 +1,15 @@
+-- `cipher_feistel::rotate_right4` meets its contract.
+use borrow.Author.Needs.{needs}
+use Rattle.clefia_spec.specs.Network.{rotateBranches}
+use Rattle.cipher_bytes.specs.ListLaws.{spelled, spell}
+use Rattle.cipher_feistel.proofs.rotate_right4.Statement.{statement}
+use Rattle.cipher_feistel.proofs.rotate_right4.Tie as tie
+
+returns : tie.Need-returns
+unfolding spelled rotateBranches
+returns c = rw (spell 4 (c .args .t1) (c .good .0 .1 .0 .1))
+
+pub rotate-right4-spec : {M : Type 1} → statement M
+rotate-right4-spec =
+    tie.close
+    (tie.spec (λ c. search needs) (λ c. search needs) (λ c. search needs) (λ c. search needs) returns)

@@ -1,0 +1,17 @@
+-- `cipher_ffunction::f1` meets its contract.
+use Rattle.cipher_ffunction.specs.Tables.{mix-f1}
+use borrow.Author.Needs.{needs}
+use Rattle.cipher_ffunction.proofs.f1.Statement.{statement}
+use Rattle.cipher_ffunction.proofs.f1.Tie as tie
+
+by-word-tables-requires : tie.Need-by-word-tables-requires
+by-word-tables-requires c κs = (search needs, c .before .pre .words (c .if1 .taken))
+
+returns : tie.Need-returns
+returns c = rw (c .by-word-tables .ensures, mix-f1)
+
+returns-2 : tie.Need-returns-2
+returns-2 c = rw (c .byte-by-byte1 .ensures, mix-f1)
+
+pub f1-spec : {M : Type 1} → statement M
+f1-spec = tie.close (tie.spec by-word-tables-requires (λ c κs. search needs) returns returns-2)

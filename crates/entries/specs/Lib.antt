@@ -1,5 +1,0 @@
-pub mod AndLaws
-pub mod Blocks
-pub mod Entry
-pub mod EntryLaws
-pub mod Parts
