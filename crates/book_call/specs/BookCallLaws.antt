@@ -2,24 +2,23 @@
 use Prim.Native.Nat.{ℕ, _+_, _*_, _≤_}
 use mathlib.Core.Path.{_≡_, refl, sym, ap, _∙_}
 use mathlib.Core.Bool.{Bool, not}
-use mathlib.Core.List.{List, [], _∷_, _++_}
+use mathlib.Core.List.{List, [], _++_}
 use native.Mathlib.Omega.{arith}
 use borrow.Author.Tests.{eq-eqb, ne-eqb}
 use lib.ListN.{length, take, set}
 use Rattle.call_answer.specs.declared.Answer.{Answer}
 use Rattle.call_answer.specs.declared.Answer.the-variants.{Accepted, Refused}
-use Rattle.call_answer.specs.Answer.{answerOf, Answered}
-use Rattle.planbook_spec.specs.Outcome.{Outcome, accepted, check, judged}
+use Rattle.call_answer.specs.Answer.{Answered}
+use Rattle.planbook_spec.specs.Outcome.{Outcome, accepted, judged}
 use Rattle.planbook_spec.specs.OutcomeLaws.{judged-pass, pass-left}
 use Rattle.planbook_spec.specs.Checks.{outputCheck}
-use Rattle.planbook_spec.specs.Book.{sheetCount, contents, bodies, recordCount, formChecks, eachBody, sheetsHold, recordsCheck, formAndRecords, mapBodies, bookChecks}
+use Rattle.planbook_spec.specs.Book.{sheetCount, contents, bodies, recordCount, formChecks, eachBody, formAndRecords, mapBodies, bookChecks}
 use Rattle.planbook_laws.specs.WalkLaws.{mapBodies-front, bodies-at}
-use Rattle.book_form.specs.Form.{formAnswer}
+use Rattle.book_form.specs.BookAnswer.{bookAnswer}
 use Rattle.planbook_laws.specs.BookLaws.{Formed, formed}
-use Rattle.call_answer.specs.Judging.{stopped, stopped-first, passed-first, Went, went, answered-refused, answered-accepted}
+use Rattle.call_answer.specs.Judging.{stopped, Went, went, answered-refused, answered-accepted}
 use Rattle.book_chain.specs.Crypt.{cryptedBody}
-use Rattle.book_check_records.specs.ClearBody.{clearBody}
-use Rattle.book_call.specs.Directions.{kindOf, bookAnswer, cryptedBook}
+use Rattle.book_call.specs.Directions.{kindOf, clearBody, cryptedBook}
 
 -- The front and the bodies are the book.
 pub mapBodies-whole : (kind : ℕ) (f : List ℕ → List ℕ → List ℕ) {book : List ℕ} {front : List ℕ} → Formed book → front ≡ set (take (4 + 24 * sheetCount book) book) 0 kind
@@ -29,22 +28,6 @@ mapBodies-whole kind f {book} g e =
     rw (e, bodies-at book) (sym (mapBodies-front kind f book l))
 
 module _ (decrypting : Bool) (w book : List ℕ) where
-  -- Checks 5 to 11, by each way out: a wrong form, a wrong record, none.
-  pub form-stopped : {r : Answer} {c : ℕ} → r ≡ formAnswer (kindOf decrypting) book → r ≡ Refused c → r ≡ bookAnswer decrypting w book
-  form-stopped e h = h ∙ sym (ap answerOf (stopped-first (formChecks (kindOf decrypting) book) _ (recordCount (contents book)) _ (sym h ∙ e)))
-
-  module _ {records : ℕ} (e : Accepted records ≡ formAnswer (kindOf decrypting) book) where
-    passed-form : Went (formChecks (kindOf decrypting) book) (recordCount (contents book)) records
-    passed-form = went (formChecks (kindOf decrypting) book) (recordCount (contents book)) e
-
-    pub form-formed : Formed book
-    form-formed = formed (kindOf decrypting) book (passed-form .checks)
-
-    pub by-records : {t : Bool} → sheetsHold (clearBody decrypting w) (contents book) (bodies book) ≡ t
-        → answerOf (judged (check 11 t ∷ []) (accepted records [])) ≡ bookAnswer decrypting w book
-    unfolding recordsCheck
-    by-records h = sym (ap answerOf (passed-first (formChecks (kindOf decrypting) book) _ _ (passed-form .checks)) ∙ (rw (h, passed-form .same)))
-
   -- The whole call, by each way out: a wrong length of the output, a check of the book, the other book.
   module _ (out : List ℕ) where
     pub wrong-output : (length out ≡ length book → ⊥) → Answered (cryptedBook decrypting w book out) out (Refused 4) out
@@ -57,10 +40,10 @@ module _ (decrypting : Bool) (w book : List ℕ) where
       unfolding bookChecks outputCheck judged
       after-output o = rw (eq-eqb _ _ same)
 
-      pub wrong-book : {r : Answer} {c : ℕ} → r ≡ bookAnswer decrypting w book → r ≡ Refused c → Answered (cryptedBook decrypting w book out) out r out
+      pub wrong-book : {r : Answer} {c : ℕ} → r ≡ bookAnswer (kindOf decrypting) (clearBody decrypting w) book → r ≡ Refused c → Answered (cryptedBook decrypting w book out) out r out
       wrong-book e h = rw h (answered-refused out (after-output _ ∙ stopped (formAndRecords _ _ book) (recordCount (contents book)) _ (sym h ∙ e)))
 
-      module _ {records : ℕ} (e : Accepted records ≡ bookAnswer decrypting w book) where
+      module _ {records : ℕ} (e : Accepted records ≡ bookAnswer (kindOf decrypting) (clearBody decrypting w) book) where
         passed-book : Went (formAndRecords (kindOf decrypting) (clearBody decrypting w) book) (recordCount (contents book)) records
         passed-book = went (formAndRecords (kindOf decrypting) (clearBody decrypting w) book) (recordCount (contents book)) e
 

@@ -1,18 +1,19 @@
 // Plan books encrypted and decrypted under expanded words and lent tables; never under a key.
 // (Document 01's terms are sealing and opening a book; a clear book has the first byte 1, and an encrypted one 2.)
 ghost use mathlib.Core.Path.{_≡_};
-ghost use mathlib.Core.Bool.{true, not};
+ghost use mathlib.Core.Bool.{not};
 ghost use mathlib.Core.List.{[]};
-ghost use Prim.Native.Nat.{_≤_};
 ghost use lib.ListN.{length};
 ghost use Rattle.clefia_spec.specs.Block.{encryptUnder, decryptUnder};
 ghost use Rattle.planbook_spec.specs.Book.{mapBodies, encryptBookBy, decryptBookBy};
 ghost use Rattle.call_answer.specs.Answer.{Answered};
-ghost use Rattle.cipher_ffunction.specs.Tables.{ValidTables};
+ghost use Rattle.cipher_ffunction.specs.Tables.{CipherReady};
 ghost use Rattle.planbook_laws.specs.BookLaws.{Formed};
 ghost use Rattle.book_chain.specs.Crypt.{cryptedBody};
-ghost use Rattle.book_check_records.specs.ClearBody.{Ready};
-ghost use Rattle.book_call.specs.Directions.{kindOf, bookAnswer, cryptedBook};
+ghost use Rattle.book_form.specs.BookAnswer.{bookAnswer};
+ghost use Rattle.book_call.specs.Directions.{kindOf, clearBody, cryptedBook};
+use book_check_clear::check_clear_book;
+use book_check_encrypted::check_encrypted_book;
 use call_answer::Answer;
 
 // The first byte of the book that a call is given: 2 where it is encrypted, and so to be decrypted, else 1.
@@ -31,33 +32,29 @@ fn write_book(
     book: &[u8],
     out: &mut [u8],
 )
-    requires { ⌜ ValidTables (now «word_tables») (now «byte_tables») ⌝ }
-    requires { ⌜ (4 ≤ length (now expanded)) × Formed (now book) × (length (now out) ≡ length (now book)) ⌝ }
+    requires { ⌜ CipherReady (now «word_tables») (now «byte_tables») (now expanded) ⌝ }
+    requires { ⌜ Formed (now book) × (length (now out) ≡ length (now book)) ⌝ }
     ensures { λ r. ⌜ now (out .exit) ≡ mapBodies (kindOf (not decrypting)) (cryptedBody decrypting (now (expanded .entry))) (now (book .entry)) ⌝ }
 {
     book_crypt_bodies::front::copy_front(kind(!decrypting), book, out);
     book_crypt_bodies::crypt_bodies(decrypting, word_tables, byte_tables, expanded, book, out);
 }
 
-// Checks 5 to 11, by themselves. The count is that of the records. Of a clear book nothing else need be lent.
-pub fn check_book(
+// Checks 5 to 11 of the book that a call is given. The count is that of the records.
+fn check_book(
     decrypting: bool,
     word_tables: &[[u32; 256]],
     byte_tables: &[[u8; 256]],
     expanded: &[u32],
     book: &[u8],
 ) -> Answer
-    requires { ⌜ (decrypting ≡ true → Ready (now «word_tables») (now «byte_tables») (now expanded)) ⌝ }
-    ensures { λ r. ⌜ r ≡ bookAnswer decrypting (now (expanded .entry)) (now (book .entry)) ⌝ }
+    requires { ⌜ CipherReady (now «word_tables») (now «byte_tables») (now expanded) ⌝ }
+    ensures { λ r. ⌜ r ≡ bookAnswer (kindOf decrypting) (clearBody decrypting (now (expanded .entry))) (now (book .entry)) ⌝ }
 {
-    let form = book_form::check_form(kind(decrypting), book);
-    let Answer::Accepted(records) = form else {
-        return form;
-    };
-    if !book_check_records::records_hold(decrypting, word_tables, byte_tables, expanded, book) {
-        return Answer::Refused(11);
+    if decrypting {
+        return check_encrypted_book(word_tables, byte_tables, expanded, book);
     }
-    Answer::Accepted(records)
+    check_clear_book(book)
 }
 
 // Checks 4 to 11, and then the other book. Nothing is written before the last check.
@@ -69,8 +66,7 @@ fn crypt_book(
     book: &[u8],
     out: &mut [u8],
 ) -> Answer
-    requires { ⌜ ValidTables (now «word_tables») (now «byte_tables») ⌝ }
-    requires { ⌜ 4 ≤ length (now expanded) ⌝ }
+    requires { ⌜ CipherReady (now «word_tables») (now «byte_tables») (now expanded) ⌝ }
     ensures { λ r. ⌜ Answered (cryptedBook decrypting (now (expanded .entry)) (now (book .entry)) (now (out .entry))) (now (out .entry)) r (now (out .exit)) ⌝ }
 {
     if out.len() != book.len() {
@@ -91,8 +87,7 @@ pub fn encrypt_book(
     book: &[u8],
     out: &mut [u8],
 ) -> Answer
-    requires { ⌜ ValidTables (now «word_tables») (now «byte_tables») ⌝ }
-    requires { ⌜ 4 ≤ length (now expanded) ⌝ }
+    requires { ⌜ CipherReady (now «word_tables») (now «byte_tables») (now expanded) ⌝ }
     ensures { λ r. ⌜ Answered (encryptBookBy [] (encryptUnder (now (expanded .entry))) (now (book .entry)) (now (out .entry))) (now (out .entry)) r (now (out .exit)) ⌝ }
 {
     crypt_book(false, word_tables, byte_tables, expanded, book, out)
@@ -105,8 +100,7 @@ pub fn decrypt_book(
     book: &[u8],
     out: &mut [u8],
 ) -> Answer
-    requires { ⌜ ValidTables (now «word_tables») (now «byte_tables») ⌝ }
-    requires { ⌜ 4 ≤ length (now expanded) ⌝ }
+    requires { ⌜ CipherReady (now «word_tables») (now «byte_tables») (now expanded) ⌝ }
     ensures { λ r. ⌜ Answered (decryptBookBy [] (decryptUnder (now (expanded .entry))) (now (book .entry)) (now (out .entry))) (now (out .entry)) r (now (out .exit)) ⌝ }
 {
     crypt_book(true, word_tables, byte_tables, expanded, book, out)

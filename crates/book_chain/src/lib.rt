@@ -1,9 +1,8 @@
 // The chain of a sheet: CBC (NIST SP 800-38A). It is passed by value; each step hands back its block together with the chain that follows.
 ghost use mathlib.Core.Path.{_≡_};
-ghost use Prim.Native.Nat.{_≤_};
 ghost use lib.ListN.{length, drop};
 ghost use Rattle.clefia_spec.specs.Words.{wordsOf};
-ghost use Rattle.cipher_ffunction.specs.Tables.{ValidTables};
+ghost use Rattle.cipher_ffunction.specs.Tables.{CipherReady};
 ghost use Rattle.book_chain.specs.Chain.{encryptStep, decryptStep};
 ghost use Rattle.book_chain.specs.Crypt.{cryptStep};
 
@@ -35,8 +34,7 @@ impl Chain {
         expanded: &[u32],
         block: [u32; 4],
     ) -> Step
-        requires { ⌜ ValidTables (now «word_tables») (now «byte_tables») ⌝ }
-        requires { ⌜ 4 ≤ length (now expanded) ⌝ }
+        requires { ⌜ CipherReady (now «word_tables») (now «byte_tables») (now expanded) ⌝ }
         ensures { λ r. ⌜ r ≡ encryptStep (now (expanded .entry)) self block ⌝ }
     {
         let previous = self.previous;
@@ -61,8 +59,7 @@ impl Chain {
         expanded: &[u32],
         block: [u32; 4],
     ) -> Step
-        requires { ⌜ ValidTables (now «word_tables») (now «byte_tables») ⌝ }
-        requires { ⌜ 4 ≤ length (now expanded) ⌝ }
+        requires { ⌜ CipherReady (now «word_tables») (now «byte_tables») (now expanded) ⌝ }
         ensures { λ r. ⌜ r ≡ decryptStep (now (expanded .entry)) self block ⌝ }
     {
         let previous = self.previous;
@@ -85,8 +82,7 @@ impl Chain {
         expanded: &[u32],
         block: [u32; 4],
     ) -> Step
-        requires { ⌜ ValidTables (now «word_tables») (now «byte_tables») ⌝ }
-        requires { ⌜ 4 ≤ length (now expanded) ⌝ }
+        requires { ⌜ CipherReady (now «word_tables») (now «byte_tables») (now expanded) ⌝ }
         ensures { λ r. ⌜ r ≡ cryptStep decrypting (now (expanded .entry)) self block ⌝ }
     {
         if decrypting {

@@ -7,7 +7,7 @@ ghost use lib.ListN.{length, drop};
 ghost use Rattle.clefia_spec.specs.Words.{bytesOf, wordsOf, xors};
 ghost use Rattle.clefia_spec.specs.Block.{decryptUnder};
 ghost use Rattle.planbook_spec.specs.Book.{count, recordHolds, sheetHolds, decryptBody};
-ghost use Rattle.cipher_ffunction.specs.Tables.{ValidTables};
+ghost use Rattle.cipher_ffunction.specs.Tables.{CipherReady};
 ghost use Rattle.book_entries.specs.Entry.{sheetOf};
 ghost use Rattle.book_chain.specs.ChainLaws.{Decrypted};
 use book_chain::Chain;
@@ -15,6 +15,7 @@ use book_entries::entry;
 use book_entries::entry::Sheet;
 use book_entries::record;
 use cipher_block_four_way::decrypt_four;
+use cipher_ffunction::has_word_tables;
 
 // Whether a decrypted block t, added to the encrypted one before it, is a record that holds.
 fn clear_holds(sheet: Sheet, previous: [u32; 4], t: [u32; 4]) -> bool
@@ -27,7 +28,11 @@ fn clear_holds(sheet: Sheet, previous: [u32; 4], t: [u32; 4]) -> bool
 fn fours(word_tables: &[[u32; 256]], n: usize) -> usize
     ensures { λ r. ⌜ 4 * r ≤ n ⌝ }
 {
-    if word_tables.len() == 8 { n / 4 } else { 0 }
+    if has_word_tables(word_tables) {
+        n / 4
+    } else {
+        0
+    }
 }
 
 // Whether the records so far hold and the four that stand at `at` too; `previous` went before them.
@@ -41,8 +46,8 @@ fn four_hold(
     at: usize,
     previous: [u32; 4],
 ) -> bool
-    requires { ⌜ ValidTables (now «word_tables») (now «byte_tables») ⌝ }
-    requires { ⌜ (4 ≤ length (now expanded)) × (at + 64 ≤ length (now body)) ⌝ }
+    requires { ⌜ CipherReady (now «word_tables») (now «byte_tables») (now expanded) ⌝ }
+    requires { ⌜ at + 64 ≤ length (now body) ⌝ }
     ensures { λ r. ⌜ ((e : List ℕ) (left : ℕ) → sheet ≡ sheetOf e → length (now (body .entry)) ≡ 16 * count e → Decrypted held (now (expanded .entry)) e (now (body .entry)) at left previous → 4 ≤ left → Decrypted r (now (expanded .entry)) e (now (body .entry)) (at + 64) (left - 4) (wordsOf 4 (drop (at + 48) (now (body .entry))))) ⌝ }
 {
     let t = decrypt_four(word_tables, byte_tables, expanded, body, at);
@@ -56,7 +61,7 @@ fn four_hold(
     let q = clear_holds(sheet, cipher_bytes::load(body, at), b);
     let r = clear_holds(sheet, cipher_bytes::load(body, second), c);
     let s = clear_holds(sheet, cipher_bytes::load(body, third), d);
-    entry::all(held, p, q, r, s)
+    held & p & q & r & s
 }
 
 // Whether the records so far hold and the last `n` too, which stand from `from` on, one by one; `before` went before them.
@@ -71,8 +76,8 @@ fn rest_holds(
     n: usize,
     before: [u32; 4],
 ) -> bool
-    requires { ⌜ ValidTables (now «word_tables») (now «byte_tables») ⌝ }
-    requires { ⌜ (4 ≤ length (now expanded)) × (length (now entry) ≡ 24) ⌝ }
+    requires { ⌜ CipherReady (now «word_tables») (now «byte_tables») (now expanded) ⌝ }
+    requires { ⌜ length (now entry) ≡ 24 ⌝ }
     requires { ⌜ length (now body) ≡ 16 * count (now entry) ⌝ }
     requires { ⌜ Decrypted held (now expanded) (now entry) (now body) from n before ⌝ }
     ensures { λ r. ⌜ r ≡ sheetHolds (now (entry .entry)) (decryptBody (decryptUnder (now (expanded .entry))) (now (entry .entry)) (now (body .entry))) ⌝ }
@@ -110,8 +115,8 @@ pub fn decrypted_sheet_holds(
     entry: &[u8],
     body: &[u8],
 ) -> bool
-    requires { ⌜ ValidTables (now «word_tables») (now «byte_tables») ⌝ }
-    requires { ⌜ (4 ≤ length (now expanded)) × (length (now entry) ≡ 24) ⌝ }
+    requires { ⌜ CipherReady (now «word_tables») (now «byte_tables») (now expanded) ⌝ }
+    requires { ⌜ length (now entry) ≡ 24 ⌝ }
     requires { ⌜ length (now body) ≡ 16 * count (now entry) ⌝ }
     ensures { λ r. ⌜ r ≡ sheetHolds (now (entry .entry)) (decryptBody (decryptUnder (now (expanded .entry))) (now (entry .entry)) (now (body .entry))) ⌝ }
 {

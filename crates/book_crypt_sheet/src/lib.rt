@@ -6,13 +6,14 @@ ghost use mathlib.Core.List.{List};
 ghost use Prim.Native.Nat.{ℕ, _+_, _-_, _*_, _≤_, _<_};
 ghost use lib.ListN.{length};
 ghost use Rattle.planbook_spec.specs.Book.{count};
-ghost use Rattle.cipher_ffunction.specs.Tables.{ValidTables};
+ghost use Rattle.cipher_ffunction.specs.Tables.{CipherReady};
 ghost use Rattle.book_chain.specs.ChainLaws.{Chained};
 ghost use Rattle.book_chain.specs.Crypt.{cryptedBody};
 ghost use Rattle.book_crypt_sheet.specs.ClearWritten.{ClearWritten};
 use book_chain::Chain;
-use book_entries::entry;
+use book_numbers::u16_at;
 use cipher_block_four_way::decrypt_four;
+use cipher_ffunction::has_word_tables;
 
 // A decrypted block t added to the encrypted one before it, and written at `at`; the encrypted one that stands there is read.
 fn write_clear(body: &[u8], out: &mut [u8], at: usize, previous: [u32; 4], t: [u32; 4]) -> [u32; 4]
@@ -38,8 +39,8 @@ fn write_four(
     at: usize,
     previous: [u32; 4],
 ) -> [u32; 4]
-    requires { ⌜ ValidTables (now «word_tables») (now «byte_tables») ⌝ }
-    requires { ⌜ (4 ≤ length (now expanded)) × (at + 64 ≤ length (now body)) × (at + 64 ≤ length (now out)) ⌝ }
+    requires { ⌜ CipherReady (now «word_tables») (now «byte_tables») (now expanded) ⌝ }
+    requires { ⌜ (at + 64 ≤ length (now body)) × (at + 64 ≤ length (now out)) ⌝ }
     ensures { λ r. ⌜ ((e : List ℕ) (left : ℕ) → length (now (body .entry)) ≡ 16 * count e → Chained true (now (expanded .entry)) e (now (body .entry)) (now (out .entry)) at left previous → 4 ≤ left → Chained true (now (expanded .entry)) e (now (body .entry)) (now (out .exit)) (at + 64) (left - 4) r) ⌝ }
 {
     let t = decrypt_four(word_tables, byte_tables, expanded, body, at);
@@ -72,12 +73,12 @@ fn write_fours(
     body: &[u8],
     out: &mut [u8],
 ) -> Place
-    requires { ⌜ ValidTables (now «word_tables») (now «byte_tables») ⌝ }
-    requires { ⌜ (4 ≤ length (now expanded)) × (length (now entry) ≡ 24) ⌝ }
+    requires { ⌜ CipherReady (now «word_tables») (now «byte_tables») (now expanded) ⌝ }
+    requires { ⌜ length (now entry) ≡ 24 ⌝ }
     requires { ⌜ (length (now body) ≡ 16 * count (now entry)) × (length (now out) ≡ 16 * count (now entry)) ⌝ }
     ensures { λ r. ⌜ Chained true (now (expanded .entry)) (now (entry .entry)) (now (body .entry)) (now (out .exit)) (r .at) (r .left) (r .previous) ⌝ }
 {
-    let mut left = entry::u16_at(entry, 4);
+    let mut left = u16_at(entry, 4);
     let chain = Chain::new(entry);
     let mut previous = chain.previous;
     let mut at = 0;
@@ -101,17 +102,17 @@ fn begin(
     body: &[u8],
     out: &mut [u8],
 ) -> Place
-    requires { ⌜ ValidTables (now «word_tables») (now «byte_tables») ⌝ }
-    requires { ⌜ (4 ≤ length (now expanded)) × (length (now entry) ≡ 24) ⌝ }
+    requires { ⌜ CipherReady (now «word_tables») (now «byte_tables») (now expanded) ⌝ }
+    requires { ⌜ length (now entry) ≡ 24 ⌝ }
     requires { ⌜ (length (now body) ≡ 16 * count (now entry)) × (length (now out) ≡ 16 * count (now entry)) ⌝ }
     ensures { λ r. ⌜ Chained decrypting (now (expanded .entry)) (now (entry .entry)) (now (body .entry)) (now (out .exit)) (r .at) (r .left) (r .previous) ⌝ }
 {
     if decrypting {
-        if word_tables.len() == 8 {
+        if has_word_tables(word_tables) {
             return write_fours(word_tables, byte_tables, expanded, entry, body, out);
         }
     }
-    let left = entry::u16_at(entry, 4);
+    let left = u16_at(entry, 4);
     let chain = Chain::new(entry);
     let previous = chain.previous;
     Place {
@@ -137,8 +138,8 @@ pub fn crypt_sheet(
     body: &[u8],
     out: &mut [u8],
 )
-    requires { ⌜ ValidTables (now «word_tables») (now «byte_tables») ⌝ }
-    requires { ⌜ (4 ≤ length (now expanded)) × (length (now entry) ≡ 24) ⌝ }
+    requires { ⌜ CipherReady (now «word_tables») (now «byte_tables») (now expanded) ⌝ }
+    requires { ⌜ length (now entry) ≡ 24 ⌝ }
     requires { ⌜ (length (now body) ≡ 16 * count (now entry)) × (length (now out) ≡ 16 * count (now entry)) ⌝ }
     ensures { λ r. ⌜ now (out .exit) ≡ cryptedBody decrypting (now (expanded .entry)) (now (entry .entry)) (now (body .entry)) ⌝ }
 {

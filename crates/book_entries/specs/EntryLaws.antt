@@ -7,11 +7,11 @@ use native.Mathlib.Omega.{arith}
 use borrow.Author.Tests.{leb-true}
 use lib.Dec.{eqb, leb, ltb}
 use lib.ListN.{getD}
+use Rattle.clefia_spec.specs.Cases.{both-true}
 use Rattle.planbook_spec.specs.Book.{trial, count, replicates, entryHolds}
 use Rattle.book_entries.specs.declared.entry.Sheet.{Sheet}
 use Rattle.book_entries.specs.declared.entry.Entry.the-variants.{Good, Broken}
 use Rattle.book_entries.specs.Entry.{sheetOf, entryOf}
-use Rattle.book_entries.specs.AndLaws.{third-passed}
 
 pub entry-good : (p : ℕ) (e : List ℕ) (s : Sheet) (t : Bool) → s ≡ sheetOf e
     → t ≡ (ltb p (s .trial) && leb 1 (s .count) && leb (s .count) 1024 && leb (s .replicates) 8 && eqb (getD e 7 0) 0)
@@ -30,6 +30,9 @@ pub record Held (p : ℕ) (e : List ℕ) (s : Sheet) : Type 0 where
   pub holds : entryHolds p e ≡ true
   pub sheet : s ≡ sheetOf e
   pub few : count e ≤ 1024
+
+third-passed : (a b c d e : Bool) → (a && b && c && d && e) ≡ true → c ≡ true
+third-passed a b c d e h = both-true (a && b) c (both-true (a && b && c) d (both-true (a && b && c && d) e h .0) .0) .1
 
 few-of : (p : ℕ) (e : List ℕ) → entryHolds p e ≡ true → count e ≤ 1024
 unfolding entryHolds

@@ -5,6 +5,7 @@ ghost use Prim.Native.Nat.{_+_, _*_, _≤_};
 ghost use lib.ListN.{length};
 ghost use Rattle.planbook_spec.specs.Book.{number, replicates};
 ghost use Rattle.book_entries.specs.Entry.{sheetOf, entryOf};
+use book_numbers::u16_at;
 
 pub struct Sheet {
     pub trial: u32,
@@ -17,20 +18,6 @@ pub struct Sheet {
 pub enum Entry {
     Good(Sheet),
     Broken,
-}
-
-fn join(a: u8, b: u8) -> usize
-    ensures { λ r. ⌜ r ≡ a * 256 + b ⌝ }
-{
-    a as usize * 256 + b as usize
-}
-
-// The number that two bytes write.
-pub fn u16_at(src: &[u8], at: usize) -> usize
-    requires { ⌜ at + 2 ≤ length (now src) ⌝ }
-    ensures { λ r. ⌜ r ≡ number at 2 (now (src .entry)) ⌝ }
-{
-    join(src[at], src[at + 1])
 }
 
 // The number of replicates. 0 stands in the books of past seasons, and is read as 4.
@@ -53,26 +40,19 @@ pub fn read_sheet(entry: &[u8]) -> Sheet
     }
 }
 
-// Five tests together.
-pub fn all(a: bool, b: bool, c: bool, d: bool, e: bool) -> bool
-    ensures { λ r. ⌜ r ≡ (a && b && c && d && e) ⌝ }
-{
-    a && b && c && d && e
-}
-
 // `previous` is the trial of the entry before, or 0.
 pub fn read_entry(entry: &[u8], previous: u32) -> Entry
     requires { ⌜ length (now entry) ≡ 24 ⌝ }
     ensures { λ r. ⌜ r ≡ entryOf previous (now (entry .entry)) ⌝ }
 {
     let sheet = read_sheet(entry);
-    if all(
-        previous < sheet.trial,
-        1 <= sheet.count,
-        sheet.count <= 1024,
-        sheet.replicates <= 8,
-        entry[7] == 0,
-    ) {
+    // `&` tries every test, which leaves the proof one way to follow.
+    if (previous < sheet.trial)
+        & (1 <= sheet.count)
+        & (sheet.count <= 1024)
+        & (sheet.replicates <= 8)
+        & (entry[7] == 0)
+    {
         Entry::Good(sheet)
     } else {
         Entry::Broken

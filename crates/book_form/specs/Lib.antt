@@ -1,3 +1,4 @@
 pub mod Form
 pub mod Walks
 pub mod FormLaws
+pub mod BookAnswer

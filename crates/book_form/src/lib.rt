@@ -8,6 +8,7 @@ ghost use Rattle.planbook_spec.specs.Book.{sheetCount};
 ghost use Rattle.book_form.specs.Form.{headAnswer, contentsAnswer, formAnswer};
 use book_entries::entry;
 use book_entries::entry::Entry;
+use book_numbers::u16_at;
 use call_answer::Answer;
 
 fn sized(book: &[u8]) -> bool
@@ -33,7 +34,7 @@ pub fn check_head(kind: u8, book: &[u8]) -> Answer
     if !headed(kind, book) {
         return Answer::Refused(6);
     }
-    let sheets = entry::u16_at(book, 2);
+    let sheets = u16_at(book, 2);
     if 64 < sheets {
         return Answer::Refused(7);
     }

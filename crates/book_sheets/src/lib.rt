@@ -1,30 +1,55 @@
-// Where the sheets of a book stand.
-ghost use mathlib.Core.Path.{_≡_};
-ghost use Prim.Native.Nat.{_+_, _*_, _≤_};
-ghost use lib.ListN.{length};
-ghost use Rattle.planbook_spec.specs.Book.{count, sheetCount};
+// The sheets of a book one after the other: where the entry and the body of each are.
+ghost use Prim.Native.Nat.{_≤_, _<_};
+ghost use Rattle.planbook_spec.specs.Book.{sheetCount};
 ghost use Rattle.planbook_laws.specs.BookLaws.{Formed};
-ghost use Rattle.book_sheets.specs.Walk.{entryAt, bodyStart};
-use book_entries::entry;
+ghost use Rattle.book_sheets.specs.Cursors.{Placed, First, Next, Reached};
+use book_numbers::u16_at;
 
-// Where the body ends that stands at `at`, and whose entry stands at `from`.
-pub fn body_end(book: &[u8], from: usize, at: usize) -> usize
-    requires { ⌜ (from + 24 ≤ length (now book)) × (at + 16 * count (entryAt (now book) from) ≤ length (now book)) ⌝ }
-    ensures { λ r. ⌜ r ≡ at + 16 * count (entryAt (now (book .entry)) from) ⌝ }
-{
-    at + 16 * entry::u16_at(book, from + 4)
+pub struct Cursor {
+    // Where the entry of the next sheet begins, and where its body does.
+    pub from: usize,
+    pub at: usize,
+    // How many sheets are left.
+    pub left: usize,
 }
 
-// Where the body of a sheet begins; for an index that is the number of sheets, the end of the book.
-pub fn body_start(book: &[u8], sheet: usize) -> usize
-    requires { ⌜ Formed (now book) × (sheet ≤ sheetCount (now book)) ⌝ }
-    ensures { λ r. ⌜ r ≡ bodyStart sheet (now (book .entry)) ⌝ }
+// The cursor at the first sheet of a book.
+pub fn first(book: &[u8]) -> Cursor
+    requires { ⌜ Formed (now book) ⌝ }
+    ensures { λ r. ⌜ First (now (book .entry)) r ⌝ }
 {
-    let mut at = 4 + 24 * entry::u16_at(book, 2);
+    let left = u16_at(book, 2);
+    Cursor {
+        from: 4,
+        at: 4 + 24 * left,
+        left,
+    }
+}
+
+// The cursor after the sheet that a cursor is at. It is where that sheet's entry and body end, too.
+pub fn next(book: &[u8], cursor: Cursor) -> Cursor
+    requires { ⌜ Placed (now book) cursor × (0 < cursor .left) ⌝ }
+    ensures { λ r. ⌜ Next (now (book .entry)) cursor r ⌝ }
+{
+    let from = cursor.from;
+    Cursor {
+        from: from + 24,
+        at: cursor.at + 16 * u16_at(book, from + 4),
+        left: cursor.left - 1,
+    }
+}
+
+// The cursor at the sheet with an index; at the number of sheets, after the last one.
+pub fn seek(book: &[u8], sheet: usize) -> Cursor
+    requires { ⌜ Formed (now book) × (sheet ≤ sheetCount (now book)) ⌝ }
+    ensures { λ r. ⌜ Reached (now (book .entry)) sheet r ⌝ }
+{
+    let mut cursor = first(book);
     let mut i = 0;
     while i < sheet {
-        at = body_end(book, 4 + 24 * i, at);
+        let following = next(book, cursor);
+        cursor = following;
         i += 1;
     }
-    at
+    cursor
 }

@@ -1,7 +1,5 @@
 // One block under an expanded key: checks 3 and 4, and then the block encrypted or decrypted.
-ghost use Prim.Native.Nat.{_≤_};
-ghost use lib.ListN.{length};
-ghost use Rattle.cipher_ffunction.specs.Tables.{ValidTables};
+ghost use Rattle.cipher_ffunction.specs.Tables.{CipherReady};
 ghost use Rattle.call_answer.specs.Answer.{Answered};
 ghost use Rattle.call_block.specs.BlockUnder.{blockUnder};
 use call_answer::Answer;
@@ -14,8 +12,7 @@ pub fn crypt_block(
     block: &[u8],
     out: &mut [u8],
 ) -> Answer
-    requires { ⌜ ValidTables (now «word_tables») (now «byte_tables») ⌝ }
-    requires { ⌜ 4 ≤ length (now expanded) ⌝ }
+    requires { ⌜ CipherReady (now «word_tables») (now «byte_tables») (now expanded) ⌝ }
     ensures { λ r. ⌜ Answered (blockUnder decrypting (now (expanded .entry)) (now (block .entry)) (now (out .entry)))
         (now (out .entry)) r (now (out .exit)) ⌝ }
 {

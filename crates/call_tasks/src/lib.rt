@@ -1,7 +1,5 @@
 // What each call that takes words does, under tables that are lent.
-ghost use lib.ListN.{length};
-ghost use Prim.Native.Nat.{_≤_};
-ghost use Rattle.cipher_ffunction.specs.Tables.{ValidTables};
+ghost use Rattle.cipher_ffunction.specs.Tables.{CipherReady};
 ghost use Rattle.call_answer.specs.Answer.{Answered};
 ghost use Rattle.call_tasks.specs.Tasks.{under};
 use call_answer::Answer;
@@ -26,8 +24,7 @@ pub fn perform(
     src: &[u8],
     out: &mut [u8],
 ) -> Answer
-    requires { ⌜ ValidTables (now «word_tables») (now «byte_tables») ⌝ }
-    requires { ⌜ 4 ≤ length (now expanded) ⌝ }
+    requires { ⌜ CipherReady (now «word_tables») (now «byte_tables») (now expanded) ⌝ }
     ensures { λ r. ⌜ Answered (under task (now (expanded .entry)) (now (iv .entry)) (now (src .entry)) (now (out .entry))) (now (out .entry)) r (now (out .exit)) ⌝ }
 {
     // Lent on as parts, the slices stay in registers (DECISIONS).

@@ -3,7 +3,7 @@ ghost use mathlib.Core.Path.{_≡_};
 ghost use Prim.Native.Nat.{_-_, _/_, _≤_};
 ghost use lib.ListN.{length};
 ghost use Rattle.clefia_spec.specs.Block.{whiten, encryptWords, decryptWords, encryptUnder, decryptUnder};
-ghost use Rattle.cipher_ffunction.specs.Tables.{ValidTables};
+ghost use Rattle.cipher_ffunction.specs.Tables.{CipherReady};
 
 pub fn whiten(a: u32, b: u32, s: [u32; 4]) -> [u32; 4]
     ensures { λ r. ⌜ r ≡ whiten a b s ⌝ }
@@ -25,8 +25,7 @@ pub fn encrypt_words(
     expanded: &[u32],
     s: [u32; 4],
 ) -> [u32; 4]
-    requires { ⌜ ValidTables (now «word_tables») (now «byte_tables») ⌝ }
-    requires { ⌜ 4 ≤ length (now expanded) ⌝ }
+    requires { ⌜ CipherReady (now «word_tables») (now «byte_tables») (now expanded) ⌝ }
     ensures { λ r. ⌜ r ≡ encryptWords (now (expanded .entry)) s ⌝ }
 {
     let n = round_count(expanded);
@@ -47,8 +46,7 @@ pub fn decrypt_words(
     expanded: &[u32],
     s: [u32; 4],
 ) -> [u32; 4]
-    requires { ⌜ ValidTables (now «word_tables») (now «byte_tables») ⌝ }
-    requires { ⌜ 4 ≤ length (now expanded) ⌝ }
+    requires { ⌜ CipherReady (now «word_tables») (now «byte_tables») (now expanded) ⌝ }
     ensures { λ r. ⌜ r ≡ decryptWords (now (expanded .entry)) s ⌝ }
 {
     let n = round_count(expanded);
@@ -70,8 +68,8 @@ pub fn encrypt_block(
     src: &[u8],
     dst: &mut [u8],
 )
-    requires { ⌜ ValidTables (now «word_tables») (now «byte_tables») ⌝ }
-    requires { ⌜ (4 ≤ length (now expanded)) × (length (now src) ≡ 16) × (length (now dst) ≡ 16) ⌝ }
+    requires { ⌜ CipherReady (now «word_tables») (now «byte_tables») (now expanded) ⌝ }
+    requires { ⌜ (length (now src) ≡ 16) × (length (now dst) ≡ 16) ⌝ }
     ensures { λ r. ⌜ now (dst .exit) ≡ encryptUnder (now (expanded .entry)) (now (src .entry)) ⌝ }
 {
     cipher_bytes::store(
@@ -92,8 +90,8 @@ pub fn decrypt_block(
     src: &[u8],
     dst: &mut [u8],
 )
-    requires { ⌜ ValidTables (now «word_tables») (now «byte_tables») ⌝ }
-    requires { ⌜ (4 ≤ length (now expanded)) × (length (now src) ≡ 16) × (length (now dst) ≡ 16) ⌝ }
+    requires { ⌜ CipherReady (now «word_tables») (now «byte_tables») (now expanded) ⌝ }
+    requires { ⌜ (length (now src) ≡ 16) × (length (now dst) ≡ 16) ⌝ }
     ensures { λ r. ⌜ now (dst .exit) ≡ decryptUnder (now (expanded .entry)) (now (src .entry)) ⌝ }
 {
     cipher_bytes::store(

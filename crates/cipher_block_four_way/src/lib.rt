@@ -3,7 +3,7 @@ ghost use mathlib.Core.Path.{_≡_};
 ghost use Prim.Native.Nat.{_+_, _≤_};
 ghost use lib.ListN.{length};
 ghost use Rattle.clefia_spec.specs.Block.{whiten, encryptWords, decryptWords};
-ghost use Rattle.cipher_ffunction.specs.Tables.{ValidTables};
+ghost use Rattle.cipher_ffunction.specs.Tables.{CipherReady};
 ghost use Rattle.cipher_network4_four_way.specs.Four.{each};
 ghost use Rattle.cipher_block_four_way.specs.FourBlocks.{decryptedFour};
 use cipher_block::round_count;
@@ -31,8 +31,7 @@ pub fn encrypt_each(
     expanded: &[u32],
     s: FourStates,
 ) -> FourStates
-    requires { ⌜ ValidTables (now «word_tables») (now «byte_tables») ⌝ }
-    requires { ⌜ 4 ≤ length (now expanded) ⌝ }
+    requires { ⌜ CipherReady (now «word_tables») (now «byte_tables») (now expanded) ⌝ }
     ensures { λ r. ⌜ r ≡ each (encryptWords (now (expanded .entry))) s ⌝ }
 {
     let n = round_count(expanded);
@@ -53,8 +52,7 @@ pub fn decrypt_each(
     expanded: &[u32],
     s: FourStates,
 ) -> FourStates
-    requires { ⌜ ValidTables (now «word_tables») (now «byte_tables») ⌝ }
-    requires { ⌜ 4 ≤ length (now expanded) ⌝ }
+    requires { ⌜ CipherReady (now «word_tables») (now «byte_tables») (now expanded) ⌝ }
     ensures { λ r. ⌜ r ≡ each (decryptWords (now (expanded .entry))) s ⌝ }
 {
     let n = round_count(expanded);
@@ -77,8 +75,8 @@ pub fn decrypt_four(
     body: &[u8],
     at: usize,
 ) -> FourStates
-    requires { ⌜ ValidTables (now «word_tables») (now «byte_tables») ⌝ }
-    requires { ⌜ (4 ≤ length (now expanded)) × (at + 64 ≤ length (now body)) ⌝ }
+    requires { ⌜ CipherReady (now «word_tables») (now «byte_tables») (now expanded) ⌝ }
+    requires { ⌜ at + 64 ≤ length (now body) ⌝ }
     ensures { λ r. ⌜ r ≡ decryptedFour (now (expanded .entry)) (now (body .entry)) at ⌝ }
 {
     let second = at + 16;

@@ -1,5 +1,5 @@
 -- The tables that F0 and F1 may be given, by the rules, and F0 and F1 by number.
-use Prim.Native.Nat.{ℕ, zero, suc, _+_, _-_, _/_, _%_, _<_}
+use Prim.Native.Nat.{ℕ, zero, suc, _+_, _-_, _/_, _%_, _≤_, _<_}
 use mathlib.Core.Path.{_≡_, refl}
 use mathlib.Core.List.{List, [], _∷_}
 use native.Mathlib.Omega.{arith}
@@ -48,18 +48,22 @@ wordTables = values wordTable 0 8
 -- The tables that a caller lends: all of a kind, or none of it. Where the word tables are lent they are read (way 2), else the byte tables (way 1), and
 -- where neither is lent the rules are worked out (way 3). The result is the same.
 pub record ValidTables (ws bs : List (List ℕ)) : Type 0 where
-  pub words : length ws ≡ 8 → ws ≡ wordTables
-  pub bytes : length bs ≡ 2 → bs ≡ byteTables
+  pub word-tables : length ws ≡ 8 → ws ≡ wordTables
+  pub byte-tables : length bs ≡ 2 → bs ≡ byteTables
 
 -- What a call lends: the word tables alone, the byte tables alone, or none.
 not-empty : (n : ℕ) {A : Type 0} → 0 < n → 0 ≡ n → A
 not-empty n h e = let z : ⊥ = omega (arith, h, e) in absurd z
 
 pub valid-word-tables : {ws : List (List ℕ)} → ws ≡ wordTables → ValidTables ws []
-valid-word-tables h = record { words = λ _. h; bytes = not-empty 2 (lit< tt) }
+valid-word-tables h = record { word-tables = λ _. h; byte-tables = not-empty 2 (lit< tt) }
 
 pub valid-byte-tables : {bs : List (List ℕ)} → bs ≡ byteTables → ValidTables [] bs
-valid-byte-tables h = record { words = not-empty 8 (lit< tt); bytes = λ _. h }
+valid-byte-tables h = record { word-tables = not-empty 8 (lit< tt); byte-tables = λ _. h }
 
 pub valid-no-tables : ValidTables [] []
-valid-no-tables = record { words = not-empty 8 (lit< tt); bytes = not-empty 2 (lit< tt) }
+valid-no-tables = record { word-tables = not-empty 8 (lit< tt); byte-tables = not-empty 2 (lit< tt) }
+
+-- Tables and an expanded key that blocks can be encrypted and decrypted with.
+abbrev pub CipherReady : List (List ℕ) → List (List ℕ) → List ℕ → Type 0
+CipherReady ws bs w = ValidTables ws bs × (4 ≤ length w)

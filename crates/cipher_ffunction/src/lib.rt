@@ -1,5 +1,6 @@
 // F0 and F1, the two functions of a round, by each of the three ways.
 ghost use mathlib.Core.Path.{_≡_};
+ghost use mathlib.Core.Bool.{true};
 ghost use mathlib.Core.List.{[], _∷_};
 ghost use Prim.Native.Nat.{_-_, _<_};
 ghost use lib.ListN.{length, getD};
@@ -118,11 +119,24 @@ fn by_rules(f: usize, z: u32, y: u32) -> u32
     }
 }
 
+// Which tables are given decides the way: the word tables (way 2), else the byte tables (way 1), else none (way 3).
+pub fn has_word_tables(word_tables: &[[u32; 256]]) -> bool
+    ensures { λ r. ⌜ (r ≡ true → length (now («word_tables» .entry)) ≡ 8) ⌝ }
+{
+    word_tables.len() == 8
+}
+
+fn has_byte_tables(byte_tables: &[[u8; 256]]) -> bool
+    ensures { λ r. ⌜ (r ≡ true → length (now («byte_tables» .entry)) ≡ 2) ⌝ }
+{
+    byte_tables.len() == 2
+}
+
 fn byte_by_byte0(byte_tables: &[[u8; 256]], z: u32, y: u32) -> u32
     requires { ⌜ (length (now «byte_tables») ≡ 2 → now «byte_tables» ≡ byteTables) ⌝ }
     ensures { λ r. ⌜ r ≡ y ⊕ mix 0 z ⌝ }
 {
-    if byte_tables.len() == 2 {
+    if has_byte_tables(byte_tables) {
         by_byte_tables(byte_tables, 0, z, y)
     } else {
         by_rules(0, z, y)
@@ -133,7 +147,7 @@ fn byte_by_byte1(byte_tables: &[[u8; 256]], z: u32, y: u32) -> u32
     requires { ⌜ (length (now «byte_tables») ≡ 2 → now «byte_tables» ≡ byteTables) ⌝ }
     ensures { λ r. ⌜ r ≡ y ⊕ mix 1 z ⌝ }
 {
-    if byte_tables.len() == 2 {
+    if has_byte_tables(byte_tables) {
         by_byte_tables(byte_tables, 1, z, y)
     } else {
         by_rules(1, z, y)
@@ -145,7 +159,7 @@ pub fn f0(word_tables: &[[u32; 256]], byte_tables: &[[u8; 256]], k: u32, x: u32,
     requires { ⌜ ValidTables (now «word_tables») (now «byte_tables») ⌝ }
     ensures { λ r. ⌜ r ≡ y ⊕ f0 k x ⌝ }
 {
-    if word_tables.len() == 8 {
+    if has_word_tables(word_tables) {
         by_word_tables(word_tables, 0, k ^ x, y)
     } else {
         byte_by_byte0(byte_tables, k ^ x, y)
@@ -156,7 +170,7 @@ pub fn f1(word_tables: &[[u32; 256]], byte_tables: &[[u8; 256]], k: u32, x: u32,
     requires { ⌜ ValidTables (now «word_tables») (now «byte_tables») ⌝ }
     ensures { λ r. ⌜ r ≡ y ⊕ f1 k x ⌝ }
 {
-    if word_tables.len() == 8 {
+    if has_word_tables(word_tables) {
         by_word_tables(word_tables, 1, k ^ x, y)
     } else {
         byte_by_byte1(byte_tables, k ^ x, y)

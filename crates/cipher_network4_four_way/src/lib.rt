@@ -9,6 +9,7 @@ ghost use Rattle.cipher_ffunction.specs.Tables.{wordTables, ValidTables};
 ghost use Rattle.cipher_network4_four_way.specs.Four.{each, Keys};
 use cipher_feistel::rotate_left4;
 use cipher_feistel::rotate_right4;
+use cipher_ffunction::has_word_tables;
 use cipher_network4::inverse_network4;
 use cipher_network4::network4;
 
@@ -204,7 +205,7 @@ pub fn network4_each(
     requires { ⌜ at + 2 * n ≤ length (now expanded) ⌝ }
     ensures { λ r. ⌜ r ≡ each (network4 n (now (expanded .entry)) at) s ⌝ }
 {
-    if word_tables.len() == 8 {
+    if has_word_tables(word_tables) {
         if n % 2 == 0 {
             return rotate_right_each(rounds_by_two(word_tables, expanded, n / 2, at, s));
         }
@@ -234,7 +235,7 @@ pub fn inverse_network4_each(
     requires { ⌜ at + 2 * n ≤ length (now expanded) ⌝ }
     ensures { λ r. ⌜ r ≡ each (inverseNetwork4 n (now (expanded .entry)) at) s ⌝ }
 {
-    if word_tables.len() == 8 {
+    if has_word_tables(word_tables) {
         if n % 2 == 0 {
             return undo_by_two(word_tables, expanded, n / 2, at, rotate_left_each(s));
         }

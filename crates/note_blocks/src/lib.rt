@@ -4,7 +4,7 @@ ghost use Prim.Native.Nat.{_+_, _-_, _≤_};
 ghost use borrow.Rule.Slice.PartMut.{putMid};
 ghost use lib.ListN.{length, drop};
 ghost use Rattle.clefia_spec.specs.Words.{bytesOf, wordsOf, xors};
-ghost use Rattle.cipher_ffunction.specs.Tables.{ValidTables};
+ghost use Rattle.cipher_ffunction.specs.Tables.{CipherReady};
 ghost use Rattle.note_blocks.specs.Counter.{counterState, encryptedFour};
 use cipher_network4_four_way::FourStates;
 
@@ -60,8 +60,8 @@ pub fn encrypt_four(
     counter: [u32; 4],
     i: u32,
 ) -> FourStates
-    requires { ⌜ ValidTables (now «word_tables») (now «byte_tables») ⌝ }
-    requires { ⌜ (4 ≤ length (now expanded)) × (i ≤ 1020) ⌝ }
+    requires { ⌜ CipherReady (now «word_tables») (now «byte_tables») (now expanded) ⌝ }
+    requires { ⌜ i ≤ 1020 ⌝ }
     ensures { λ r. ⌜ r ≡ encryptedFour (now (expanded .entry)) counter i ⌝ }
 {
     let blocks = FourStates {

@@ -5,7 +5,7 @@ ghost use mathlib.Core.List.{[]};
 ghost use Prim.Native.Nat.{_+_, _*_, _≤_, _<_};
 ghost use lib.ListN.{length};
 ghost use Rattle.clefia_spec.specs.Block.{encryptUnder};
-ghost use Rattle.cipher_ffunction.specs.Tables.{ValidTables};
+ghost use Rattle.cipher_ffunction.specs.Tables.{ValidTables, CipherReady};
 ghost use Rattle.call_answer.specs.Answer.{Answered};
 ghost use Rattle.planbook_spec.specs.Note.{cryptNoteBy};
 ghost use Rattle.note_call.specs.NoteFilled.{NoteReady, cryptedNote, NoteFilled};
@@ -132,8 +132,7 @@ pub fn crypt_note(
     note: &[u8],
     out: &mut [u8],
 ) -> Answer
-    requires { ⌜ ValidTables (now «word_tables») (now «byte_tables») ⌝ }
-    requires { ⌜ 4 ≤ length (now expanded) ⌝ }
+    requires { ⌜ CipherReady (now «word_tables») (now «byte_tables») (now expanded) ⌝ }
     ensures { λ r. ⌜ Answered (cryptNoteBy [] (encryptUnder (now (expanded .entry))) (now (counter .entry)) (now (note .entry)) (now (out .entry))) (now (out .entry)) r (now (out .exit)) ⌝ }
 {
     if counter.len() != 16 {

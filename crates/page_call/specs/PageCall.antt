@@ -1,6 +1,5 @@
--- The whole call, by each way out: a check of the book, no such sheet, the sheet. A clear book is checked with no words lent.
+-- The whole call, by each way out: a check of the book, no such sheet, the sheet.
 use Prim.Native.Nat.{ℕ, _*_, _≤_, _<_}
-use mathlib.Core.Bool.{false}
 use mathlib.Core.List.{List, [], _∷_}
 use mathlib.Core.Path.{_≡_, _∙_}
 use borrow.Author.Tests.{lt-ltb, le-ltb}
@@ -14,13 +13,13 @@ use Rattle.call_answer.specs.declared.Answer.{Answer}
 use Rattle.call_answer.specs.declared.Answer.the-variants.{Accepted, Refused}
 use Rattle.call_answer.specs.Answer.{Answered}
 use Rattle.call_answer.specs.Judging.{refused-by, passed-first, went, answered-refused, answered-same}
-use Rattle.book_call.specs.Directions.{bookAnswer}
+use Rattle.book_form.specs.BookAnswer.{bookAnswer}
 
-pub wrong-book : (book : List ℕ) (i : ℕ) (out : List ℕ) {r : Answer} {c : ℕ} → r ≡ bookAnswer false [] book → r ≡ Refused c → Answered (pageCall book i out) out r out
+pub wrong-book : (book : List ℕ) (i : ℕ) (out : List ℕ) {r : Answer} {c : ℕ} → r ≡ bookAnswer 1 asItIs book → r ≡ Refused c → Answered (pageCall book i out) out r out
 unfolding pageCall pageChecks
 wrong-book book i out e h = refused-by (formAndRecords 1 asItIs book) _ (recordCount (contents book)) _ out e h
 
-module _ (book : List ℕ) {records : ℕ} (e : Accepted records ≡ bookAnswer false [] book) where
+module _ (book : List ℕ) {records : ℕ} (e : Accepted records ≡ bookAnswer 1 asItIs book) where
   checked : AllPass (formAndRecords 1 asItIs book)
   checked = went (formAndRecords 1 asItIs book) (recordCount (contents book)) e .checks
 

@@ -6,7 +6,7 @@ ghost use lib.ListN.{length, take};
 ghost use Rattle.planbook_spec.specs.Book.{pieces};
 ghost use Rattle.planbook_spec.specs.Page.{numberField, heading, line, lines};
 ghost use Rattle.page_text.specs.Digits.{shownDigit};
-use book_entries::entry;
+use book_numbers::u16_at;
 
 // The last digit of a number, or a space where no digit is left.
 fn digit(rest: usize) -> u8
@@ -57,8 +57,8 @@ fn write_line(record: &[u8], out: &mut [u8])
     put_field(out, 0, 10, cipher_bytes::word(record, 0) as usize, b' ');
     put_field(out, 11, 10, cipher_bytes::word(record, 4) as usize, b' ');
     put_field(out, 22, 1, wide(record[8]), b' ');
-    put_field(out, 24, 3, entry::u16_at(record, 9), b' ');
-    put_field(out, 28, 3, entry::u16_at(record, 11), b'\n');
+    put_field(out, 24, 3, u16_at(record, 9), b' ');
+    put_field(out, 28, 3, u16_at(record, 11), b'\n');
 }
 
 fn write_heading(out: &mut [u8])

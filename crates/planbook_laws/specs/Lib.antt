@@ -10,4 +10,5 @@ pub mod PageLaws
 pub mod OutputLengths
 pub mod PastSeasons
 pub mod Received
+pub mod Parts
 pub mod WalkLaws

@@ -2,7 +2,8 @@
 use mathlib.Core.Path.{_≡_, sym, _∙_}
 use borrow.Author.Needs.{needs}
 use Rattle.call_answer.specs.declared.Answer.the-variants.{Accepted}
-use Rattle.book_call.specs.Directions.{bookAnswer}
+use Rattle.book_form.specs.BookAnswer.{bookAnswer}
+use Rattle.book_call.specs.Directions.{kindOf, clearBody}
 use Rattle.book_call.specs.BookCallLaws.{wrong-output, wrong-book, checked-formed, right-book}
 use Rattle.book_call.proofs.crypt_book.Statement.{statement}
 use Rattle.book_call.proofs.crypt_book.Tie as tie
@@ -16,7 +17,7 @@ sized k = k .before .before .before .before
 
 answered : (k : tie.After-known-told) →
     let s : tie.Start = start (sized k) in
-    Accepted (k .before .checked .given .0 .0) ≡ bookAnswer (s .args .decrypting) (s .args .expanded .now) (s .args .book .now)
+    Accepted (k .before .checked .given .0 .0) ≡ bookAnswer (kindOf (s .args .decrypting)) (clearBody (s .args .decrypting) (s .args .expanded .now)) (s .args .book .now)
 answered k = sym (k .before .checked .given .1) ∙ k .before .before .before .check-book .ensures
 
 returns : tie.Need-returns
@@ -43,7 +44,7 @@ write-book-requires : tie.Need-write-book-requires
 write-book-requires c κs =
     let k : tie.After-known-told = c .before in
     let t : tie.Start = start (sized k) in
-    (t .pre .0, (t .pre .1, checked-formed (t .args .decrypting) (t .args .expanded .now) _ (t .args .out .now) (sized k .if1 .left) (answered k), sized k .if1 .left))
+    (t .pre, (checked-formed (t .args .decrypting) (t .args .expanded .now) _ (t .args .out .now) (sized k .if1 .left) (answered k), sized k .if1 .left))
 
 same-length : tie.Need-same-length
 same-length c = search needs

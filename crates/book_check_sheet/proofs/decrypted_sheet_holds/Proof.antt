@@ -22,7 +22,7 @@ begun : (c : tie.After-previous Inv-loop μ-loop) →
 begun c =
     let s : tie.Start Inv-loop μ-loop = c .before .before .before .before .before .before in
     let r : c .before .before .read-sheet .result ≡ _ = c .before .before .read-sheet .ensures in
-    rw (r, c .before .new .ensures) (decrypted-start (s .args .expanded .now) (s .args .entry .now) (s .args .body .now) (below-all (s .args .entry .now) (λ j h. c .before .before .before .before .shared-slice-known2 .given j .fits)) (s .pre .1 .0 .1))
+    rw (r, c .before .new .ensures) (decrypted-start (s .args .expanded .now) (s .args .entry .now) (s .args .body .now) (below-all (s .args .entry .now) (λ j h. c .before .before .before .before .shared-slice-known2 .given j .fits)) (s .pre .1 .0))
 
 loop-holds : tie.Need-loop-holds Inv-loop μ-loop
 loop-holds c = (c .before .before .before .read-sheet .ensures, begun (c .before), c .fours .ensures)

@@ -7,7 +7,7 @@ use lib.ListN.{length, drop}
 use Rattle.clefia_spec.specs.Words.{wordsOf, Below}
 use Rattle.clefia_laws.specs.DigitLaws.{below-all}
 use Rattle.planbook_spec.specs.Book.{count}
-use Rattle.book_entries.specs.Parts.{part-length}
+use Rattle.planbook_laws.specs.Parts.{part-length}
 use Rattle.book_chain.specs.ChainLaws.{Chained, chain-turn, chain-end, ahead-fits}
 use Rattle.book_crypt_sheet.proofs.crypt_sheet.Statement.{statement}
 use Rattle.book_crypt_sheet.proofs.crypt_sheet.Tie as tie

@@ -13,7 +13,7 @@ use Rattle.book_crypt_sheet.proofs.write_four.Tie as tie
 write-clear-requires-4 : tie.Need-write-clear-requires-4
 write-clear-requires-4 c κs =
     let s : tie.Start = c .before .before .before .before .before .before .before .before .before .before .before .before .before .before .before .before .before .before .before .before .before in
-    (omega (arith, s .pre .1 .1), omega (arith, s .pre .1 .2, c .before .before .out3 .given, c .before .before .before .before .before .before .out2 .given, c .before .before .before .before .before .before .before .before .before .before .out .given))
+    (omega (arith, s .pre .1 .0), omega (arith, s .pre .1 .1, c .before .before .out3 .given, c .before .before .before .before .before .before .out2 .given, c .before .before .before .before .before .before .before .before .before .before .out .given))
 
 returns : tie.Need-returns
 returns c e left size k h =

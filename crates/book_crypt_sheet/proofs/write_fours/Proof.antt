@@ -17,7 +17,7 @@ loop-holds : tie.Need-loop-holds Inv-loop μ-loop
 loop-holds c =
     let s : tie.Start Inv-loop μ-loop = c .before .before .before .before .before .before .before in
     rw (c .before .before .u16-at .ensures, c .before .new .ensures)
-    (chain-start true (s .args .expanded .now) (s .args .body .now) (below-all (s .args .entry .now) (λ j k. c .before .before .before .before .before .shared-slice-known2 .given j .fits)) (s .pre .1 .0 .1) (s .pre .1 .1 .1))
+    (chain-start true (s .args .expanded .now) (s .args .body .now) (below-all (s .args .entry .now) (λ j k. c .before .before .before .before .before .shared-slice-known2 .given j .fits)) (s .pre .1 .0) (s .pre .1 .1 .1))
 
 loop-again : tie.Need-loop-again Inv-loop μ-loop
 loop-again c =

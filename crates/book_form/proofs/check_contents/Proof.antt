@@ -8,7 +8,7 @@ use Rattle.planbook_spec.specs.Book.{sheetCount}
 use Rattle.book_entries.specs.declared.entry.Entry.the-variants.{Good, Broken}
 use Rattle.book_entries.specs.Entry.{entryOf}
 use Rattle.book_entries.specs.EntryLaws.{Held, held}
-use Rattle.book_entries.specs.Parts.{part, part-length}
+use Rattle.planbook_laws.specs.Parts.{part, part-length}
 use Rattle.book_form.specs.Walks.{Walked, walk-start, walk-step, walk-broken, walk-wrong, walk-right}
 use Rattle.book_form.proofs.check_contents.Statement.{statement}
 use Rattle.book_form.proofs.check_contents.Tie as tie

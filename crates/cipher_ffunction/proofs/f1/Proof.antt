@@ -5,7 +5,7 @@ use Rattle.cipher_ffunction.proofs.f1.Statement.{statement}
 use Rattle.cipher_ffunction.proofs.f1.Tie as tie
 
 by-word-tables-requires : tie.Need-by-word-tables-requires
-by-word-tables-requires c κs = (search needs, c .before .pre .words (c .if1 .taken))
+by-word-tables-requires c κs = (search needs, c .before .before .pre .word-tables (c .before .has-word-tables .ensures (c .if1 .taken)))
 
 returns : tie.Need-returns
 returns c = rw (c .by-word-tables .ensures, mix-f1)
@@ -14,4 +14,4 @@ returns-2 : tie.Need-returns-2
 returns-2 c = rw (c .byte-by-byte1 .ensures, mix-f1)
 
 pub f1-spec : {M : Type 1} → statement M
-f1-spec = tie.close (tie.spec by-word-tables-requires (λ c κs. search needs) returns returns-2)
+f1-spec = tie.close (tie.spec (λ c κs. search needs) by-word-tables-requires (λ c κs. search needs) returns returns-2)

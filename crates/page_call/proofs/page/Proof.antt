@@ -1,27 +1,23 @@
 -- `page_call::page` meets its contract: the checks of the book, that of the sheet, and what is left for the sheet that there is.
-use mathlib.Core.Bool.{false, false≢true}
-use mathlib.Core.List.{[]}
 use mathlib.Core.Path.{_≡_, sym, _∙_}
 use native.Mathlib.Omega.{arith}
 use borrow.Author.Needs.{needs}
 use Rattle.call_answer.specs.declared.Answer.the-variants.{Accepted}
-use Rattle.book_call.specs.Directions.{bookAnswer}
+use Rattle.planbook_spec.specs.Book.{asItIs}
+use Rattle.book_form.specs.BookAnswer.{bookAnswer}
 use Rattle.page_call.specs.PageCall.{wrong-book, book-formed, no-sheet, a-sheet}
 use Rattle.page_call.proofs.page.Statement.{statement}
 use Rattle.page_call.proofs.page.Tie as tie
 
 -- the checks of the book, once passed
-answered : (k : tie.After-known-told) → Accepted (k .before .checked .given .0 .0) ≡ bookAnswer false [] (k .before .before .before .before .before .before .before .before .before .args .book .now)
-answered k = sym (k .before .checked .given .1) ∙ k .before .before .before .check-book .ensures
-
-check-book-requires : tie.Need-check-book-requires
-check-book-requires c κs h = absurd (false≢true h)
+answered : (k : tie.After-known-told) → Accepted (k .before .checked .given .0 .0) ≡ bookAnswer 1 asItIs (k .before .before .before .before .before .before .args .book .now)
+answered k = sym (k .before .checked .given .1) ∙ k .before .before .before .check-clear-book .ensures
 
 returns : tie.Need-returns
 returns c =
-    let b : tie.After-check-book = c .before .before in
-    let s : tie.Start = b .before .before .before .before .before .before in
-    wrong-book (s .args .book .now) (s .args .sheet) (s .args .out .now) (b .check-book .ensures) (c .enum-told .given .1)
+    let b : tie.After-check-clear-book = c .before .before in
+    let s : tie.Start = b .before .before .before in
+    wrong-book (s .args .book .now) (s .args .sheet) (s .args .out .now) (b .check-clear-book .ensures) (c .enum-told .given .1)
 
 u16-at-requires : tie.Need-u16-at-requires
 u16-at-requires c κs = omega (arith, book-formed _ (answered c) .size)
@@ -46,5 +42,5 @@ returns-3 c =
 pub page-spec : {M : Type 1} → statement M
 page-spec =
     tie.close
-    (tie.spec (λ c. search needs) (λ c. search needs) (λ c. search needs) check-book-requires (λ c. search needs) (λ c. search needs) returns
+    (tie.spec (λ c κs. search needs) (λ c. search needs) (λ c. search needs) returns
     u16-at-requires returns-2 sheet-page-requires (λ c. search needs) returns-3)

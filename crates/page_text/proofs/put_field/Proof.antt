@@ -4,7 +4,7 @@ use mathlib.Core.Path.{_≡_, refl}
 use borrow.Author.Needs.{needs}
 use lib.ListN.{length, take, drop}
 use Rattle.planbook_spec.specs.Page.{numberField}
-use Rattle.book_entries.specs.Parts.{part-length}
+use Rattle.planbook_laws.specs.Parts.{part-length}
 use Rattle.page_text.specs.Digits.{field-put}
 use Rattle.page_text.proofs.put_field.Statement.{statement}
 use Rattle.page_text.proofs.put_field.Tie as tie

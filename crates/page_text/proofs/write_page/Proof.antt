@@ -4,7 +4,7 @@ use mathlib.Core.Path.{refl, sym, _∙_}
 use native.Mathlib.Omega.{arith}
 use borrow.Author.Needs.{needs}
 use lib.ListN.{length}
-use Rattle.book_entries.specs.Parts.{part, part-length}
+use Rattle.planbook_laws.specs.Parts.{part, part-length}
 use Rattle.page_text.specs.Lines.{Lined, lined-start, line-room, lined-next, lined-end}
 use Rattle.page_text.proofs.write_page.Statement.{statement}
 use Rattle.page_text.proofs.write_page.Tie as tie

@@ -1,2 +1,0 @@
-pub mod ClearBody
-pub mod Tested
