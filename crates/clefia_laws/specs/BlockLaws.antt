@@ -1,5 +1,6 @@
--- Decryption undoes encryption and encryption undoes decryption, on every block: under any words of a permitted count, and under every key of a permitted
--- length. So encryption is injective. What comes out is a block of 16 bytes.
+-- Decryption undoes encryption and encryption undoes decryption, on every block: under any expanded
+-- key of a permitted count of words, and under every key of a permitted length. So encryption is
+-- injective. What comes out is a block of 16 bytes.
 use Prim.Native.Nat.{ℕ, zero, suc, _+_, _*_, _^_, _≤_, _<_}
 use mathlib.Core.Path.{_≡_, refl, sym, ap, _∙_}
 use mathlib.Core.List.{List, [], _∷_, _++_}
@@ -78,9 +79,9 @@ words-of-block {b} r = record { size = length-numbersOf 256 4 4 b; below = below
 pub bytes-of-words : {s : List ℕ} → Words 4 s → Bytes 16 (bytesOf s)
 bytes-of-words {s} h = record { size = length-digitsOf 256 4 s ∙ ap (λ (n : ℕ). n * 4) (h .size); below = below-digitsOf (lit< tt) 4 s }
 
--- ---- a block at the front of a row of bytes
+-- ---- a block at the start of a list of bytes
 
--- Numbers that are written at the front of a row, whatever follows them.
+-- Numbers that are written at the start of a list, whatever follows them.
 numbers-append : (b k n : ℕ) (xs ys : List ℕ) → length xs ≡ n * k → numbersOf b k n (xs ++ ys) ≡ numbersOf b k n xs
 unfolding numbersOf
 numbers-append b k zero xs ys e = refl
@@ -100,7 +101,7 @@ block-at bs r h =
 
 -- ---- blocks
 
--- a function on rows of four words, taken to the bytes of a block
+-- a function on lists of four words, as one on the bytes of a block
 undoes-bytes : (f g : List ℕ → List ℕ) → ((s : List ℕ) → Words 4 s → Words 4 (f s)) → ((s : List ℕ) → g (f s) ≡ s)
     → Undone (Bytes 16) (λ b. bytesOf (f (wordsOf 4 b))) (λ b. bytesOf (g (wordsOf 4 b)))
 undoes-bytes f g kept back =

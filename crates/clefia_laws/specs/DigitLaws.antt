@@ -1,4 +1,5 @@
--- Digits and numbers, both ways, over any base and any number of digits: bytes of words and bits of words alike.
+-- Digits and numbers, both ways, over any base and any number of digits: bytes of words and bits of
+-- words alike.
 use Prim.Native.Nat.{ℕ, zero, suc, _+_, _*_, _/_, _%_, _^_, _<_, _≤_, _-_, min, zero-le, suc-le-suc}
 use mathlib.Core.Path.{_≡_, refl, sym, ap, ap₂, _∙_, subst}
 use mathlib.Core.List.{List, [], _∷_, _++_}
@@ -12,7 +13,7 @@ use lib.Seq.{take-at, drop-at}
 use Rattle.clefia_laws.specs.XorLaws.{xor-cancel-left}
 use Rattle.clefia_spec.specs.Words.{_⊕_, fromDigits, toDigits, digitsOf, numbersOf, xors, Below, none, more}
 
--- ---- rows whose numbers are below a bound
+-- ---- lists whose numbers are below a bound
 
 pub below-append : {b : ℕ} {xs ys : List ℕ} → Below b xs → Below b ys → Below b (xs ++ ys)
 below-append none s = s
@@ -28,7 +29,7 @@ below-drop zero r = r
 below-drop (suc n) none = none
 below-drop (suc n) (more h r) = below-drop n r
 
--- at each place, and from all places; past the end stands 0
+-- at each place, and from all places; past the end it is 0
 pub below-getD : {b : ℕ} {xs : List ℕ} → zero < b → Below b xs → (i : ℕ) → getD xs i 0 < b
 below-getD pos none i = pos
 below-getD pos (more h r) zero = h
@@ -115,7 +116,7 @@ module _ {b : ℕ} (pos : zero < b) where
       (ap (λ (e : ℕ). toDigits b (length xs) (x * b ^ e + fromDigits b xs)) (sym (zero-add (length xs)))
       ∙ high-digits (length xs) 0 x (fromDigits b xs) ∙ to-from r)
 
-  -- ---- rows of numbers, apart and together
+  -- ---- lists of numbers, apart and together
 
   pub numbers-digits : (k : ℕ) {ns : List ℕ} → Below (b ^ k) ns → numbersOf b k (length ns) (digitsOf b k ns) ≡ ns
   unfolding numbersOf digitsOf
@@ -158,7 +159,7 @@ module _ {b : ℕ} (pos : zero < b) where
       short : length (take k ds) ≤ k
       short = omega (arith, length-take k ds)
 
--- ---- exclusive or of rows
+-- ---- exclusive or of lists
 
 pub length-xors : (xs ys : List ℕ) → length (xors xs ys) ≡ length ys
 unfolding xors
@@ -173,7 +174,7 @@ getD-xors (x ∷ xs) [] i h k = absurd (not-suc-le-zero k)
 getD-xors (x ∷ xs) (y ∷ ys) zero h k = refl
 getD-xors (x ∷ xs) (y ∷ ys) (suc i) h k = getD-xors xs ys i (le-of-suc-le-suc h) (le-of-suc-le-suc k)
 
--- a mask added twice is gone
+-- a mask added twice cancels
 pub xors-cancel : (xs ys : List ℕ) → xors xs (xors xs ys) ≡ ys
 unfolding xors
 xors-cancel [] ys = refl

@@ -1,4 +1,5 @@
--- The outputs of the substitutions are bytes and those of the F functions are words, whatever comes in.
+-- The outputs of the substitutions are bytes and those of the F functions are words, whatever comes
+-- in.
 use Prim.Native.Nat.{ℕ, _-_, _/_, _%_, _^_, _<_}
 use mathlib.Core.List.{List, [], _∷_, map}
 use native.Mathlib.Nat.{mod-lt}
@@ -15,7 +16,7 @@ use Rattle.clefia_laws.specs.FieldLaws.{product-lt}
 use Rattle.clefia_spec.specs.Sbox.{ss0, ss1, ss2, ss3, s0, bitOf, sumOfBits, affine, fRows, gRows, s1}
 use Rattle.clefia_spec.specs.FFunction.{matrixEntry, rowTimes, matrixTimes, substitute, f0, f1}
 
--- a row of numbers, tested
+-- a list of numbers, tested
 unfoldable pub allLess : ℕ → List ℕ → Bool
 allLess b [] = true
 allLess b (x ∷ xs) = ltb x b && allLess b xs
@@ -74,7 +75,8 @@ unfolding matrixTimes
 matrixTimes-lt m r =
     fromDigits-lt (lit< tt) (more (rowTimes-lt m 0 r) (more (rowTimes-lt m 1 r) (more (rowTimes-lt m 2 r) (more (rowTimes-lt m 3 r) none))))
 
--- (by search, so that these bounds do not depend on the order of the boxes: a wrong order fails in Examples)
+-- (by search, so that these bounds do not depend on the order of the boxes: a wrong order fails in
+-- Examples)
 pub f0-lt : (k x : ℕ) → f0 k x < 2 ^ 32
 unfolding f0
 f0-lt k x = search (matrixTimes-lt, below-substitute, s0-lt, s1-lt)

@@ -1,4 +1,5 @@
--- Laws of GF(2^8): products stay below 256. A law about each byte is one test that the checker computes for all 256.
+-- Laws of GF(2^8): products stay below 256. A law about each byte is one test that the checker
+-- computes for all 256.
 use Prim.Native.Nat.{ℕ, zero, suc, _*_, _/_, _%_, _<_, _≤_}
 use mathlib.Core.Path.{_≡_, refl, sym, subst}
 use mathlib.Core.Bool.{Bool, true, _&&_}
@@ -53,7 +54,8 @@ pub product-lt : (x y : ℕ) → x < 256 → product x y < 256
 unfolding product
 product-lt x y h = addProduct-lt 8 0 x y (lit< tt) h
 
--- The inverse of 0, as the rule of S1 has it. (That x times the inverse is 1 for every other byte is computed in the crate long_cases.)
+-- The inverse of 0, as the rule of S1 has it. (That x times the inverse is 1 for every other byte
+-- is computed in the crate test_long_cases.)
 pub inverse-zero : inverse 0 ≡ 0
 unfolding double addProduct product squares inverse
 inverse-zero = refl

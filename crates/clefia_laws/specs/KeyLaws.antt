@@ -1,4 +1,5 @@
--- The lengths of constants (60, 84, 92) and expanded keys (40, 48, 56), and that all of them are words.
+-- The lengths of constants (60, 84, 92) and expanded keys (40, 48, 56), and that all of them are
+-- words.
 use Prim.Native.Nat.{ℕ, zero, suc, _+_, _-_, _*_, _/_, _%_, _^_, _<_}
 use mathlib.Core.Path.{_≡_, refl, sym, ap, _∙_}
 use mathlib.Core.Bool.{Bool, true, false}

@@ -1,5 +1,5 @@
--- The rounds of the network are undone both ways, for any number of rounds, any round functions, any keys and any number of branches. Lengths and
--- bounds are kept.
+-- The rounds of the network are undone both ways, for any number of rounds, any round functions,
+-- any keys and any number of branches. Lengths and bounds are kept.
 use Prim.Native.Nat.{ℕ, zero, suc, _+_, _-_, _^_, _<_}
 use mathlib.Core.Path.{_≡_, refl, ap, ap₂, _∙_}
 use mathlib.Core.List.{List, [], _∷_, _++_}
@@ -19,7 +19,7 @@ unfolding rotateBranches
 length-rotate k s =
     length-append (drop k s) (take k s) ∙ omega (arith, length-drop k s, length-take k s)
 
--- a rotation by k is taken back by one by the rest of the branches
+-- a rotation by k is undone by one by the rest of the branches
 rotate-back : (j k : ℕ) (s : List ℕ) → j + k ≡ length s → rotateBranches j (rotateBranches k s) ≡ s
 unfolding rotateBranches
 rotate-back j k s e =

@@ -1,4 +1,5 @@
--- Rows of a known length whose numbers are below a bound: n bytes, n words. And what it means that one function on rows takes another one back.
+-- Lists of a known length whose numbers are below a bound: n bytes, n words. And what it means that
+-- one function on lists undoes another.
 use Prim.Native.Nat.{ℕ, _+_, _^_}
 use mathlib.Core.List.{List, _++_}
 use mathlib.Core.Path.{_≡_, sym, ap, ap₂, _∙_}
@@ -8,7 +9,7 @@ use lib.Seq.{length-take-le}
 use Rattle.clefia_spec.specs.Words.{xors, Below}
 use Rattle.clefia_laws.specs.DigitLaws.{below-append, below-take, below-drop, length-xors, below-xors}
 
--- A row of n numbers below b.
+-- A list of n numbers below b.
 pub record Sized (b n : ℕ) (xs : List ℕ) : Type 0 where
   pub size : length xs ≡ n
   pub below : Below b xs
@@ -16,7 +17,7 @@ pub record Sized (b n : ℕ) (xs : List ℕ) : Type 0 where
 abbrev pub Bytes : ℕ → List ℕ → Type 0
 Bytes n xs = Sized 256 n xs
 
--- A row of n words.
+-- A list of n words.
 abbrev pub Words : ℕ → List ℕ → Type 0
 Words n xs = Sized (2 ^ 32) n xs
 
@@ -38,7 +39,7 @@ module _ {b : ℕ} where
 pub sized-xors : (w : ℕ) {m n : ℕ} {xs ys : List ℕ} → Sized (2 ^ w) m xs → Sized (2 ^ w) n ys → Sized (2 ^ w) n (xors xs ys)
 sized-xors w {xs = xs} {ys = ys} p q = record { size = length-xors xs ys ∙ q .size; below = below-xors w (p .below) (q .below) }
 
--- f keeps P, and g takes it back: so f is injective there.
+-- f keeps P, and g undoes f: so f is injective there.
 pub record Undone (P : List ℕ → Type 0) (f g : List ℕ → List ℕ) : Type 0 where
   pub keeps : (x : List ℕ) → P x → P (f x)
   pub back : (x : List ℕ) → P x → g (f x) ≡ x

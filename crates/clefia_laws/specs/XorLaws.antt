@@ -1,4 +1,5 @@
--- Laws of exclusive or: associative, and what is added twice is gone. (The kit's lib.Bits has commutativity and bounds.)
+-- Laws of exclusive or: associative, and what is added twice cancels. (The kit's lib.Bits has
+-- commutativity and bounds.)
 use Prim.Native.Nat.{ℕ, zero, suc, _+_, _*_, _/_, _%_, _<_}
 use mathlib.Core.Path.{_≡_, refl, sym, ap, ap₂, _∙_}
 use native.Mathlib.Nat.{mod-lt, zero-lt-suc, not-suc-le-zero, le-of-suc-le-suc}
@@ -44,7 +45,7 @@ xor-assoc =
     ∙ sym (ap₂ (λ (x y : ℕ). (a / 2 ⊕ x) * 2 + differ (a % 2) y) (xor-half b c) (xor-odd b c))
     ∙ sym (xor-step a (b ⊕ c)))
 
--- added before, added after: gone
+-- added before, added after: it cancels
 pub xor-cancel-left : (a b : ℕ) → a ⊕ (a ⊕ b) ≡ b
 xor-cancel-left a b = sym (xor-assoc a a b) ∙ ap (λ (x : ℕ). x ⊕ b) (xor-self a)
 

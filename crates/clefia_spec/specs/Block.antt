@@ -1,4 +1,5 @@
--- One block of 16 bytes, encrypted and decrypted, under expanded words w and under a key. (Document 01's terms are sealing and opening a block.)
+-- One block of 16 bytes, encrypted and decrypted, under an expanded key w and under a key.
+-- (Document 01's terms: sealing and opening.)
 use Prim.Native.Nat.{ℕ, _-_, _/_}
 use mathlib.Core.List.{List, [], _∷_}
 use lib.ListN.{length, getD}
@@ -20,7 +21,7 @@ encryptWords w s = whiten (getD w 2 0) (getD w 3 0) (network4 (roundCount w) w 4
 unfoldable pub decryptWords : List ℕ → List ℕ → List ℕ
 decryptWords w s = whiten (getD w 0 0) (getD w 1 0) (inverseNetwork4 (roundCount w) w 4 (whiten (getD w 2 0) (getD w 3 0) s))
 
--- A block of 16 bytes under expanded words.
+-- A block of 16 bytes under an expanded key.
 unfoldable pub encryptUnder : List ℕ → List ℕ → List ℕ
 encryptUnder w block = bytesOf (encryptWords w (wordsOf 4 block))
 

@@ -1,4 +1,5 @@
--- A list of cases, each an expression beside the numbers that it must give, and the one statement that all of them hold.
+-- A list of cases, each an expression beside the numbers that it must give, and the one statement
+-- that all of them hold.
 use Prim.Native.Nat.{ℕ}
 use mathlib.Core.Bool.{Bool, true, false, _&&_, false≢true}
 use mathlib.Core.Path.{_≡_, refl, ap₂}
@@ -14,20 +15,20 @@ pub data AllHold : List Case → Type 0 where
   done : AllHold []
   _and_ : {a b : List ℕ} {cs : List Case} → a ≡ b → AllHold cs → AllHold ((a gives b) ∷ cs)
 
--- A test that computes, of a whole list of cases.
+-- A test that computes: of one case here, of a list of cases below.
 unfoldable pub same : List ℕ → List ℕ → Bool
 same [] [] = true
 same [] (y ∷ ys) = false
 same (x ∷ xs) [] = false
 same (x ∷ xs) (y ∷ ys) = eqb x y && same xs ys
 
--- Who unfolds it unfolds the test of one case with it.
+-- Unfolding this unfolds the test of one case too.
 unfoldable pub allSame : List Case → Bool
 unfolding same
 allSame [] = true
 allSame ((xs gives ys) ∷ cs) = same xs ys && allSame cs
 
--- Of two tests that passed together, both passed.
+-- Where two tests pass together, each passes.
 pub both-true : (a b : Bool) → a && b ≡ true → (a ≡ true) × (b ≡ true)
 both-true true b e = (refl, e)
 both-true false b e = absurd (false≢true e)

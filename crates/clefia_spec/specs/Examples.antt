@@ -1,6 +1,8 @@
--- Worked examples of the CLEFIA specification (section 2.5.1): whole expanded keys, and one round under the first words of one. They see what the
--- marked cases do not: rotations, DoubleSwap, the order of constants, keys and halves, whitening, bytes and words. (One printed round key breaks
--- the paper's own rules and stands corrected: RK15 of the 24-byte key is 92cfc98e.)
+-- Worked examples of the CLEFIA specification (section 2.5.1): whole expanded keys, and one round
+-- under the first words of one. They catch slips that the marked cases miss: in rotations,
+-- DoubleSwap, the order of constants, keys and halves, whitening, bytes and words. (One printed
+-- round key breaks the paper's own rules and is corrected here: RK15 of the 24-byte key is
+-- 92cfc98e.)
 use Prim.Native.Nat.{ℕ}
 use mathlib.Core.List.{List, [], _∷_, _++_}
 use mathlib.Core.Path.{refl}
@@ -19,7 +21,8 @@ use Rattle.clefia_spec.specs.Cases.{Case, _gives_, AllHold, allSame, com
 abbrev pub key32 : List ℕ
 key32 = bytesOf (0xffeeddcc ∷ 0xbbaa9988 ∷ 0x77665544 ∷ 0x33221100 ∷ 0xf0e0d0c0 ∷ 0xb0a09080 ∷ 0x70605040 ∷ 0x30201000 ∷ [])
 
--- WK and then RK of the two shorter ones. (The crate long_cases has a ciphertext under each of the three.)
+-- WK (whitening words) and then RK (round keys) of the two shorter keys. (Crate test_long_cases has
+-- a ciphertext under each of the three.)
 pub expandedKeys : List Case
 expandedKeys =
     (expandKey (take 16 key32) gives
@@ -52,7 +55,8 @@ oneRound = 0xffeeddcc ∷ 0xbbaa9988 ∷ 0x77665544 ∷ 0x33221100 ∷ 0xf3e6cef
 abbrev twoRounds : List ℕ
 twoRounds = oneRound ++ 0x41c06256 ∷ 0x640ac51b ∷ []
 
--- A block and what one round makes of it: the paper's first round, rotated back, with the last two whitening words added.
+-- A block and what one round makes of it: the paper's first round, rotated back, with the last two
+-- whitening words added.
 abbrev pub clearBlock : List ℕ
 clearBlock = 0 ∷ 1 ∷ 2 ∷ 3 ∷ 4 ∷ 5 ∷ 6 ∷ 7 ∷ 8 ∷ 9 ∷ 10 ∷ 11 ∷ 12 ∷ 13 ∷ 14 ∷ 15 ∷ []
 

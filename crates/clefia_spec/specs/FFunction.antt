@@ -6,7 +6,7 @@ use Rattle.clefia_spec.specs.Words.{_⊕_, fromDigits, toDigits}
 use Rattle.clefia_spec.specs.Field.{product}
 use Rattle.clefia_spec.specs.Sbox.{s0, s1}
 
--- The first row of each matrix; the entry at row i, column j is the one at i ⊕ j of it.
+-- The first row of each matrix. The entry at row i, column j is entry i ⊕ j of that row.
 unfoldable pub m0 : List ℕ
 m0 = 0x01 ∷ 0x02 ∷ 0x04 ∷ 0x06 ∷ []
 
@@ -28,7 +28,7 @@ rowTimes m i y =
 unfoldable pub matrixTimes : List ℕ → List ℕ → ℕ
 matrixTimes m y = fromDigits 256 (rowTimes m 0 y ∷ rowTimes m 1 y ∷ rowTimes m 2 y ∷ rowTimes m 3 y ∷ [])
 
--- The bytes of a row through s and t by turns, beginning with s.
+-- The bytes of a list through s and t alternately, beginning with s.
 unfoldable pub substitute : (ℕ → ℕ) → (ℕ → ℕ) → List ℕ → List ℕ
 substitute s t [] = []
 substitute s t (b ∷ bs) = s b ∷ substitute t s bs

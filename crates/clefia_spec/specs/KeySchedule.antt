@@ -1,4 +1,4 @@
--- The expanded key: four whitening words and the round keys. (Document 01's term for it is prepared key.)
+-- The expanded key: four whitening words and the round keys. (Document 01's term: prepared key.)
 use Prim.Native.Nat.{ℕ, zero, suc, _+_, _-_, _*_, _/_, _%_}
 use mathlib.Core.List.{List, [], _∷_, _++_}
 use lib.Dec.{eqb, ltb}
@@ -7,7 +7,7 @@ use Rattle.clefia_spec.specs.Words.{complement, digitsOf, numbersOf, wor
 use Rattle.clefia_spec.specs.Constants.{constants}
 use Rattle.clefia_spec.specs.Network.{network4, network8}
 
--- Bits a to b of a row, ends included; bit 0 is the first.
+-- Bits a to b of a list, ends included; bit 0 is the first.
 unfoldable pub bitRange : ℕ → ℕ → List ℕ → List ℕ
 bitRange a b bits = take (b + 1 - a) (drop a bits)
 
@@ -22,8 +22,9 @@ doubleSwap x = numbersOf 2 32 4 (doubleSwapBits (digitsOf 2 32 x))
 unfoldable pub stepKeys : ℕ → List ℕ → List ℕ → List ℕ → List ℕ
 stepKeys i con k l = choose (eqb (i % 2) 1) (xors k (xors con l)) (xors con l)
 
--- The round keys of n steps from step i on. The constants of step i stand at base + 4i. Two rows take turns: a step at which i % period is below 2
--- uses l, with k at odd steps, and then swaps l; any other step does the same with l′ and k′.
+-- The round keys of n steps from step i on. The constants of step i are at base + 4i. A step where
+-- i % period is below 2 uses l, with k at odd steps, and then applies DoubleSwap to l; any other
+-- step does the same with l′ and k′.
 unfoldable pub roundKeys : ℕ → ℕ → List ℕ → ℕ → ℕ → List ℕ → List ℕ → List ℕ → List ℕ → List ℕ
 roundKeys period base con zero i k k′ l l′ = []
 roundKeys period base con (suc n) i k k′ l l′ =
@@ -32,21 +33,22 @@ roundKeys period base con (suc n) i k k′ l l′ =
     (choose (ltb (i % period) 2) (doubleSwap l) l)
     (choose (ltb (i % period) 2) l′ (doubleSwap l′))
 
--- A key of four words: L is 12 rounds over the key, the whitening words are the key, and 9 steps all use L and the key (with a period of 2 every
--- step has i % period below 2).
+-- A key of four words: L is 12 rounds over the key, the whitening words are the key, and 9 steps
+-- all use L and the key (with a period of 2 every step has i % period below 2).
 unfoldable pub expandShort : List ℕ → List ℕ
 expandShort k =
     let l : List ℕ = network4 12 (constants 16) 0 k in
     k ++ roundKeys 2 24 (constants 16) 9 0 k k l l
 
--- KL and KR of a longer key: LL and LR are the halves of 10 rounds over both, the whitening words their sum, and n steps go by turns, two with LL and
--- KR, two with LR and KL.
+-- A longer key, as KL and KR: LL and LR are the halves of what 10 rounds make of both, and the
+-- whitening words the sum of both. Of the n steps, two use LL and KR, the next two LR and KL, and
+-- so on.
 unfoldable pub expandLong : List ℕ → ℕ → List ℕ → List ℕ → List ℕ
 expandLong con n kl kr =
     let l : List ℕ = network8 10 con 0 (kl ++ kr) in
     xors kl kr ++ roundKeys 4 40 con n 0 kr kl (take 4 l) (drop 4 l)
 
--- KR of a key of six words: its last two, and its first two inverted.
+-- KR of a key of six words: its last two, and its first two with every bit inverted.
 unfoldable pub extendKey : List ℕ → List ℕ
 extendKey k = getD k 4 0 ∷ getD k 5 0 ∷ complement 32 (getD k 0 0) ∷ complement 32 (getD k 1 0) ∷ []
 

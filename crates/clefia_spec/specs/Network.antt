@@ -1,12 +1,15 @@
--- The generalised Feistel network, over a row of branches of any even number, and its inverse. (Document 01's term for a branch is line.)
--- The round keys stand in a row w, and i is the place of the next one. A round takes p keys: one for each two branches.
+-- The generalised Feistel network, over a list of branches of any even number, and its inverse.
+-- (Document 01's term for a branch: line.)
+-- The round keys are in a list w, and i is the place of the next one. A round takes p keys: one for
+-- each two branches.
 use Prim.Native.Nat.{ℕ, zero, suc, _+_, _-_}
 use mathlib.Core.List.{List, [], _∷_, _++_}
 use lib.ListN.{length, getD, take, drop}
 use Rattle.clefia_spec.specs.Words.{_⊕_}
 use Rattle.clefia_spec.specs.FFunction.{f0, f1}
 
--- In each pair of branches, the round function of the first is added to the second; f and g act by turns.
+-- In each pair of branches, the round function of the first is added to the second; f and g are
+-- used alternately.
 unfoldable pub feistel : (ℕ → ℕ → ℕ) → (ℕ → ℕ → ℕ) → List ℕ → ℕ → List ℕ → List ℕ
 feistel f g w i [] = []
 feistel f g w i (x ∷ []) = x ∷ []
@@ -28,7 +31,7 @@ unfoldable pub rounds : ℕ → (ℕ → ℕ → ℕ) → (ℕ → ℕ → ℕ) 
 rounds p f g zero w i s = s
 rounds p f g (suc n) w i s = rounds p f g n w (i + p) (rotateLeft (feistel f g w i s))
 
--- The same n rounds taken back, the last one first.
+-- The same n rounds undone, the last one first.
 unfoldable pub undoRounds : ℕ → (ℕ → ℕ → ℕ) → (ℕ → ℕ → ℕ) → ℕ → List ℕ → ℕ → List ℕ → List ℕ
 undoRounds p f g zero w i s = s
 undoRounds p f g (suc n) w i s = feistel f g w i (rotateRight (undoRounds p f g n w (i + p) s))

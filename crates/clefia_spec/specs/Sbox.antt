@@ -18,7 +18,8 @@ ss2 = 0xb ∷ 0x8 ∷ 0x5 ∷ 0xe ∷ 0xa ∷ 0x6 ∷ 0x4 ∷ 0xc ∷ 0xf ∷ 0x
 unfoldable pub ss3 : List ℕ
 ss3 = 0xa ∷ 0x2 ∷ 0x6 ∷ 0xd ∷ 0x3 ∷ 0x4 ∷ 0x5 ∷ 0xe ∷ 0x0 ∷ 0x7 ∷ 0x8 ∷ 0x9 ∷ 0xb ∷ 0xf ∷ 0xc ∷ 0x1 ∷ []
 
--- S0: each half of the byte through its box, the halves mixed in GF(2^4), each through a second box.
+-- S0: each half of the byte through its box, the halves mixed in GF(2^4), each through a second
+-- box.
 unfoldable pub s0 : ℕ → ℕ
 s0 x =
     let t0 : ℕ = getD ss0 (x / 16) 0 in
@@ -29,16 +30,16 @@ s0 x =
 unfoldable pub bitOf : ℕ → ℕ → ℕ
 bitOf x i = x / 2 ^ (7 - i) % 2
 
--- The sum of the bits of x that a row names.
+-- The sum of the bits of x whose places are in a list.
 unfoldable pub sumOfBits : ℕ → List ℕ → ℕ
 sumOfBits x [] = 0
 sumOfBits x (i ∷ is) = bitOf x i ⊕ sumOfBits x is
 
--- A byte each of whose bits is a sum of bits of x, and then a constant added.
+-- A byte each of whose bits is a sum of bits of x, plus a constant.
 unfoldable pub affine : List (List ℕ) → ℕ → ℕ → ℕ
 affine rows c x = fromDigits 2 (map (sumOfBits x) rows) ⊕ c
 
--- The bits that f and g sum, from bit 0 of the result to bit 7.
+-- The bits summed by f and g, the two maps of S1, from bit 0 of the result to bit 7.
 unfoldable pub fRows : List (List ℕ)
 fRows =
     (3 ∷ 4 ∷ [])

@@ -1,5 +1,5 @@
--- Numbers, their digits, and rows of words. A byte is a number below 2 ^ 8 and a word one below 2 ^ 32; rows of either are lists. In all of them
--- the first byte or bit is the highest.
+-- Numbers, their digits, and lists of words. A byte is a number below 2 ^ 8, a word one below 2 ^
+-- 32. The first byte or bit is always the highest.
 use Prim.Native.Nat.{ℕ, zero, suc, _+_, _-_, _*_, _/_, _%_, _^_, _<_}
 use mathlib.Core.Bool.{Bool, true, false}
 use mathlib.Core.List.{List, [], _∷_, _++_}
@@ -8,7 +8,7 @@ use lib.Dec.{eqb}
 use lib.ListN.{length, getD, take, drop}
 
 infixl 69 _⊕_
--- Exclusive or, bit by bit.
+-- Exclusive or, bit by bit. Comments call it adding.
 abbrev pub _⊕_ : ℕ → ℕ → ℕ
 _⊕_ = bitXor
 
@@ -30,12 +30,12 @@ unfoldable pub toDigits : ℕ → ℕ → ℕ → List ℕ
 toDigits b zero n = []
 toDigits b (suc k) n = n / b ^ k % b ∷ toDigits b k n
 
--- Each number as k digits in base b, joined in one row.
+-- Each number as k digits in base b, joined in one list.
 unfoldable pub digitsOf : ℕ → ℕ → List ℕ → List ℕ
 digitsOf b k [] = []
 digitsOf b k (n ∷ ns) = toDigits b k n ++ digitsOf b k ns
 
--- The first n numbers of k digits each that stand in a row of digits.
+-- The first n numbers, of k digits each, in a list of digits.
 unfoldable pub numbersOf : ℕ → ℕ → ℕ → List ℕ → List ℕ
 numbersOf b k zero ds = []
 numbersOf b k (suc n) ds = fromDigits b (take k ds) ∷ numbersOf b k n (drop k ds)
@@ -44,15 +44,15 @@ numbersOf b k (suc n) ds = fromDigits b (take k ds) ∷ numbersOf b k n (drop k 
 abbrev pub bytesOf : List ℕ → List ℕ
 bytesOf = digitsOf 256 4
 
--- The first n words of a row of bytes.
+-- The first n words of a list of bytes.
 abbrev pub wordsOf : ℕ → List ℕ → List ℕ
 wordsOf = numbersOf 256 4
 
--- The four words that stand at place i of a row.
+-- The four words from place i of a list on.
 unfoldable pub fourAt : List ℕ → ℕ → List ℕ
 fourAt w i = getD w i 0 ∷ getD w (i + 1) 0 ∷ getD w (i + 2) 0 ∷ getD w (i + 3) 0 ∷ []
 
--- A mask added to a row, place by place. Where the mask is shorter, the rest of the row stays.
+-- A mask added to a list, place by place. Where the mask is shorter, the rest of the list stays.
 unfoldable pub xors : List ℕ → List ℕ → List ℕ
 xors [] ys = ys
 xors (x ∷ xs) [] = []
@@ -63,7 +63,7 @@ abbrev pub choose {ℓ} : {A : Type ℓ} → Bool → A → A → A
 choose true a b = a
 choose false a b = b
 
--- What a rule says for keys of 16, 24 and 32 bytes.
+-- One of three values, by key length: for keys of 16, 24 and 32 bytes.
 abbrev pub byKeyLength {ℓ} : {A : Type ℓ} → ℕ → A → A → A → A
 byKeyLength n a b c = choose (eqb n 16) a (choose (eqb n 24) b c)
 
@@ -73,7 +73,7 @@ pub data KeyLength : ℕ → Type 0 where
   twentyFour : KeyLength 24
   thirtyTwo : KeyLength 32
 
--- Every number of the row is below b: at 2 ^ 8 a row of bytes, at 2 ^ 32 a row of words.
+-- Every number of the list is below b: with 2 ^ 8 a list of bytes, with 2 ^ 32 a list of words.
 pub data Below (b : ℕ) : List ℕ → Type 0 where
   none : Below b []
   more : {x : ℕ} {xs : List ℕ} → x < b → Below b xs → Below b (x ∷ xs)

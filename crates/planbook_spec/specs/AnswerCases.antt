@@ -1,5 +1,6 @@
--- The edges of the checks, and a book of two sheets under a toy cipher, of the definitions: computed lists. No theorem of the demands sees a slip that
--- both calls share, such as one chain that runs on through all sheets, or a check that lets too much through; these cases do.
+-- Computed cases of the definitions: the edges of the checks, and a book of two sheets under a toy
+-- cipher. No theorem of the demands sees a slip that both calls share, such as one chain that runs
+-- on through all sheets, or a check that lets too much through; these cases do.
 use Prim.Native.Nat.{ℕ, zero, suc, _+_, _*_, _^_}
 use mathlib.Core.List.{List, [], _∷_, _++_}
 use mathlib.Core.Path.{refl}
@@ -11,7 +12,7 @@ use Rattle.planbook_spec.specs.Outcome.{answer, after, judged}
 use Rattle.planbook_spec.specs.Checks.{keyCheck, wayCheck, blockCheck, outputCheck, wordsCheck, wordsFromBytes, constantCount, expandedCount, constantsCall, expandKeyCall, blockChecks, encryptBlockCall, decryptBlockCall}
 use Rattle.planbook_spec.specs.Book.{number, pieces, replicates, entryHolds, entriesHold, plotHolds, recordHolds, allRecordsHold, recordCount, formChecks, eachBody, sheetsHold, recordsCheck, cbcEncrypt, cbcDecrypt, encryptBody, decryptBody, mapBodies, bookChecks, encryptBookBy, decryptBookBy, encryptBookCall, decryptBookCall}
 
--- The toy: the bytes of a block rotated by one place.
+-- The toy cipher: the bytes of a block rotated by one place.
 abbrev pub toyEncrypt : List ℕ → List ℕ
 toyEncrypt x = drop 1 x ++ take 1 x
 
@@ -33,11 +34,12 @@ rising (suc n) v = v ∷ rising n (v + 1)
 abbrev pub entryWith : ℕ → ℕ → ℕ → List ℕ
 entryWith t n v = 0 ∷ 0 ∷ 0 ∷ t ∷ 0 ∷ n ∷ 0 ∷ 0 ∷ rising 16 v
 
--- A clear book of one record: trial 41, entry 7, replicate 2, in reserve. The entry stands at byte 4, the record at byte 28.
+-- A clear book of one record: trial 41, entry 7, replicate 2, in reserve. The entry is at byte 4,
+-- the record at byte 28.
 abbrev pub small : List ℕ
 small = 1 ∷ 0 ∷ 0 ∷ 1 ∷ entryWith 41 1 0x10 ++ (0 ∷ 0 ∷ 0 ∷ 41 ∷ 0 ∷ 0 ∷ 0 ∷ 7 ∷ 2 ∷ replicate 7 0)
 
--- The same with byte 6 of its entry, the number of replicates, and with a replicate of its record.
+-- The same book with b replicates in byte 6 of its entry, and replicate r in its record.
 abbrev pub replicated : ℕ → ℕ → List ℕ
 replicated b r = set (set small 10 b) 36 r
 
@@ -47,7 +49,8 @@ encryptedSmall =
     2 ∷ 0 ∷ 0 ∷ 1 ∷ entryWith 41 1 0x10
     ++ (0x11 ∷ 0x12 ∷ 0x3a ∷ 0x14 ∷ 0x15 ∷ 0x16 ∷ 0x10 ∷ 0x1a ∷ 0x19 ∷ 0x1a ∷ 0x1b ∷ 0x1c ∷ 0x1d ∷ 0x1e ∷ 0x1f ∷ 0x10 ∷ [])
 
--- The four bytes of a row and a column. They stand at 37 in the clear book and, each added to its byte of the iv, at 36 in the encrypted one: the toy rotates.
+-- The four bytes of a row and a column. They are at 37 in the clear book and, each added to its
+-- byte of the iv, at 36 in the encrypted one: the toy rotates.
 abbrev pub plot : ℕ → ℕ → List ℕ
 plot row column = toDigits 256 2 row ++ toDigits 256 2 column
 
@@ -58,7 +61,8 @@ plotAnswers row column =
     ∷ decrypting (sets encryptedSmall 36 (xors (plot row column) (0x19 ∷ 0x1a ∷ 0x1b ∷ 0x1c ∷ [])))
     ∷ []
 
--- A clear book of two sheets, of two records and of one: entries at bytes 4 and 28, records at 52, 68 and 84.
+-- A clear book of two sheets, of two records and of one: entries at bytes 4 and 28, records at 52,
+-- 68 and 84.
 abbrev pub twoEntries : List ℕ
 twoEntries = entryWith 41 2 0x10 ++ entryWith 42 1 0x20
 
@@ -69,7 +73,8 @@ large =
     ++ (0 ∷ 0 ∷ 0 ∷ 0x29 ∷ 0 ∷ 0 ∷ 0 ∷ 8 ∷ 4 ∷ 3 ∷ 0xe7 ∷ 3 ∷ 0xe7 ∷ 0 ∷ 0 ∷ 0 ∷ [])
     ++ (0 ∷ 0 ∷ 0 ∷ 0x2a ∷ 0 ∷ 0 ∷ 0 ∷ 7 ∷ 1 ∷ 0 ∷ 0 ∷ 0 ∷ 0 ∷ 0 ∷ 0 ∷ 0 ∷ [])
 
--- What it is encrypted to. The second record is added to the first encrypted one; the third, in a sheet of its own, to its own iv.
+-- What it is encrypted to. The second record is added to the first encrypted one; the third, in a
+-- sheet of its own, to its own iv.
 abbrev pub encryptedLarge : List ℕ
 encryptedLarge =
     2 ∷ 0 ∷ 0 ∷ 2 ∷ twoEntries
@@ -81,36 +86,38 @@ pub bookCases : List Case
 bookCases =
     (encrypting large ∷ after large (encryptBookBy [] toyEncrypt large large) gives 3 ∷ encryptedLarge)
     ∷ (decrypting encryptedLarge ∷ after encryptedLarge (decryptBookBy [] toyDecrypt encryptedLarge encryptedLarge) gives 3 ∷ large)
-    -- 5: three bytes; one byte too many
+    -- check 5: three bytes; one byte too many
     ∷ (encrypting (1 ∷ 0 ∷ 0 ∷ []) ∷ [] gives 5 * 2 ^ 32 ∷ [])
     ∷ (encrypting (replicate 65533 1) ∷ [] gives 5 * 2 ^ 32 ∷ [])
-    -- 65,532 bytes pass 5
+    -- 65,532 bytes pass check 5
     ∷ (encrypting (replicate 65532 1) ∷ [] gives 6 * 2 ^ 32 ∷ [])
-    -- 6: the first byte, the second; and before 7
+    -- check 6: the first byte, the second; and before 7
     ∷ (encrypting (set small 0 2) ∷ [] gives 6 * 2 ^ 32 ∷ [])
     ∷ (encrypting (set small 1 1) ∷ [] gives 6 * 2 ^ 32 ∷ [])
     ∷ (encrypting (set (set small 0 2) 3 65) ∷ [] gives 6 * 2 ^ 32 ∷ [])
-    -- 7: 65 sheets; 257 sheets
+    -- check 7: 65 sheets; 257 sheets
     ∷ (encrypting (set small 3 65) ∷ [] gives 7 * 2 ^ 32 ∷ [])
     ∷ (encrypting (set small 2 1) ∷ [] gives 7 * 2 ^ 32 ∷ [])
-    -- 8: 64 sheets pass, and their contents are not there
+    -- check 8: 64 sheets pass 7, and their contents are not there
     ∷ (encrypting (set small 3 64) ∷ [] gives 8 * 2 ^ 32 ∷ [])
     ∷ (encrypting (take 27 small) ∷ [] gives 8 * 2 ^ 32 ∷ [])
-    -- 9: trial 0; no record; 1025 records; byte 7; trials that do not rise
+    -- check 9: trial 0; no record; 1025 records; byte 7; trials that do not rise
     ∷ (encrypting (set small 7 0) ∷ [] gives 9 * 2 ^ 32 ∷ [])
     ∷ (encrypting (set small 9 0) ∷ [] gives 9 * 2 ^ 32 ∷ [])
     ∷ (encrypting (set (set small 8 4) 9 1) ∷ [] gives 9 * 2 ^ 32 ∷ [])
     ∷ (encrypting (set small 11 1) ∷ [] gives 9 * 2 ^ 32 ∷ [])
     ∷ (encrypting (set large 31 41) ∷ [] gives 9 * 2 ^ 32 ∷ [])
-    -- 10: the contents are there, to the byte, and the body is not; 1024 records pass, and are not there; a byte too few; a byte too many
+    -- check 10: the contents are there, to the byte, and the body is not; 1024 records pass 9, and
+    -- are not there; a byte too few; a byte too many
     ∷ (encrypting (take 28 small) ∷ [] gives 10 * 2 ^ 32 ∷ [])
     ∷ (encrypting (set (set small 8 4) 9 0) ∷ [] gives 10 * 2 ^ 32 ∷ [])
     ∷ (encrypting (take 43 small) ∷ [] gives 10 * 2 ^ 32 ∷ [])
     ∷ (encrypting (small ++ (0 ∷ [])) ∷ [] gives 10 * 2 ^ 32 ∷ [])
     -- 10 comes before 11
     ∷ (encrypting (set (take 43 small) 35 0) ∷ [] gives 10 * 2 ^ 32 ∷ [])
-    -- 11: a trial above its sheet's, below it, and one that differs in its first byte; entry 0; replicate 0; each of the three zero bytes; the second
-    -- record of a sheet, and the last of two sheets
+    -- check 11: a trial above its sheet's, below it, and one that differs in its first byte; entry
+    -- 0; replicate 0; each of the three zero bytes; the second record of a sheet, and the last of
+    -- two sheets
     ∷ (encrypting (set small 31 42) ∷ [] gives 11 * 2 ^ 32 ∷ [])
     ∷ (encrypting (set small 31 40) ∷ [] gives 11 * 2 ^ 32 ∷ [])
     ∷ (encrypting (set small 28 1) ∷ [] gives 11 * 2 ^ 32 ∷ [])
@@ -121,8 +128,8 @@ bookCases =
     ∷ (encrypting (set small 43 1) ∷ [] gives 11 * 2 ^ 32 ∷ [])
     ∷ (encrypting (set large 76 0) ∷ [] gives 11 * 2 ^ 32 ∷ [])
     ∷ (encrypting (set large 92 0) ∷ [] gives 11 * 2 ^ 32 ∷ [])
-    -- accepted: trial 1; entry 1, and one that has its first byte alone; a trial that has its first byte alone; the highest trial and
-    -- entry
+    -- accepted: trial 1; entry 1, and one that has its first byte alone; a trial that has its first
+    -- byte alone; the highest trial and entry
     ∷ (encrypting (set (set small 7 1) 31 1) ∷ [] gives 1 ∷ [])
     ∷ (encrypting (set small 35 1) ∷ [] gives 1 ∷ [])
     ∷ (encrypting (sets small 32 (1 ∷ 0 ∷ 0 ∷ 0 ∷ [])) ∷ [] gives 1 ∷ [])
@@ -150,12 +157,14 @@ bookCases =
     ∷ (plotAnswers 1025 1 ++ plotAnswers 1 1025 ++ plotAnswers 65535 65535 gives replicate 6 (11 * 2 ^ 32))
     -- 4 comes before 5
     ∷ (answer (encryptBookBy [] toyEncrypt (1 ∷ 0 ∷ 0 ∷ []) (replicate 4 0)) ∷ [] gives 4 * 2 ^ 32 ∷ [])
-    -- decrypting: a clear book; clear records under the mark of a sealed book; replicate 5, and 4, once the chain is undone
+    -- decrypting: a clear book; clear records in a book of the sealed kind; replicate 5, and 4,
+    -- once the chain is undone
     ∷ (decrypting (set encryptedLarge 0 1) ∷ [] gives 6 * 2 ^ 32 ∷ [])
     ∷ (decrypting (set large 0 2) ∷ [] gives 11 * 2 ^ 32 ∷ [])
     ∷ (decrypting (set encryptedLarge 91 0x2d) ∷ [] gives 11 * 2 ^ 32 ∷ [])
     ∷ (decrypting (set encryptedLarge 91 0x2c) ∷ [] gives 3 ∷ [])
-    -- decrypting: replicate 5 where the first sheet has five, and where its own has; 8 and 9 where its own has eight; byte 6 of 9
+    -- decrypting: replicate 5 where the first sheet has five, and where its own has; 8 and 9 where
+    -- its own has eight; 9 in byte 6
     ∷ (decrypting (set (set encryptedLarge 10 5) 91 0x2d) ∷ decrypting (set (set encryptedLarge 34 5) 91 0x2d) ∷ [] gives 11 * 2 ^ 32 ∷ 3 ∷ [])
     ∷ (decrypting (set (set encryptedLarge 34 8) 91 0x20) ∷ decrypting (set (set encryptedLarge 34 8) 91 0x21) ∷ [] gives 3 ∷ 11 * 2 ^ 32 ∷ [])
     ∷ (decrypting (set encryptedLarge 34 9) ∷ [] gives 9 * 2 ^ 32 ∷ [])
@@ -165,7 +174,8 @@ pub bookCases-hold : AllHold bookCases
 unfolding bookCases rising allSame fromDigits toDigits xors answer after judged outputCheck number pieces replicates entryHolds entriesHold plotHolds recordHolds allRecordsHold recordCount formChecks eachBody sheetsHold recordsCheck cbcEncrypt cbcDecrypt encryptBody decryptBody mapBodies bookChecks encryptBookBy decryptBookBy
 bookCases-hold = computed bookCases refl
 
--- What both calls for a block answer under words of w bytes, by a way, to a block of n bytes with an output of m; and both calls for a book, to one of n.
+-- What both calls for a block answer under words of w bytes, by a way, to a block of n bytes with
+-- an output of m; and both calls for a book, to one of n.
 abbrev pub blockAnswers : ℕ → ℕ → ℕ → ℕ → List ℕ
 blockAnswers w way n m =
     answer (encryptBlockCall (replicate w 0) way (replicate n 0) (replicate m 0))
@@ -201,8 +211,9 @@ callCases =
     ∷ (answer (expandKeyCall (replicate 16 0) 3 (replicate 40 0)) ∷ [] gives 4 * 2 ^ 32 ∷ [])
     ∷ (answer (expandKeyCall (replicate 24 0) 3 (replicate 160 0)) ∷ [] gives 4 * 2 ^ 32 ∷ [])
     ∷ (answer (expandKeyCall (replicate 32 0) 3 (replicate 192 0)) ∷ [] gives 4 * 2 ^ 32 ∷ [])
-    -- words, the highest byte first, as many as there are; 14: the lengths of keys, the counts of words, one byte beside each permitted length, whole words between
-    -- them, and one that is permitted where it is cut to eight bits; and the three permitted ones
+    -- words, the highest byte first, as many as there are; check 14: the lengths of keys, the
+    -- counts of words, one byte off each permitted length, whole words between them, and a length
+    -- that is permitted if cut to eight bits; and the three permitted ones
     ∷ (wordsFromBytes (rising 12 1) gives 0x01020304 ∷ 0x05060708 ∷ 0x090a0b0c ∷ [])
     ∷ (lengthsAnswers (0 ∷ 16 ∷ 24 ∷ 32 ∷ 40 ∷ 48 ∷ 56 ∷ 159 ∷ 161 ∷ 176 ∷ 191 ∷ 193 ∷ 208 ∷ 223 ∷ 225 ∷ 416 ∷ []) gives replicate 32 (14 * 2 ^ 32))
     ∷ (lengthsAnswers (160 ∷ 192 ∷ 224 ∷ []) gives replicate 6 1)

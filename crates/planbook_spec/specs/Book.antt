@@ -1,8 +1,10 @@
--- The plan book: its bytes, what holds of them, the checks of a book, and books encrypted and decrypted.
+-- The plan book: its bytes, what holds of them, the checks of a book, and books encrypted and
+-- decrypted.
 --
--- A book is a head of 4 bytes, then the contents, n entries of 24 bytes, then the bodies of the n sheets in the order of the contents, with no gap. A body
--- is records of 16 bytes, as many as its entry says. An entry is its 24 bytes here and a record its 16, and the names below read numbers out of
--- them. Numbers are unsigned, highest byte first.
+-- A book is a head of 4 bytes, then the contents, n entries of 24 bytes, then the bodies of the n
+-- sheets in the order of the contents, with no gap. A body is records of 16 bytes, as many as its
+-- entry says. An entry is its 24 bytes here and a record its 16, and the names below read numbers
+-- out of them. Numbers are unsigned, highest byte first.
 use Prim.Native.Nat.{ℕ, zero, suc, _+_, _*_}
 use mathlib.Core.Bool.{Bool, true, _&&_, _||_}
 use mathlib.Core.List.{List, [], _∷_, _++_}
@@ -22,22 +24,25 @@ unfoldable pub pieces : ℕ → ℕ → List ℕ → List (List ℕ)
 pieces k zero bs = []
 pieces k (suc n) bs = take k bs ∷ pieces k n (drop k bs)
 
--- An entry of the contents: trial (4 bytes), count of records (2), number of replicates (1), a zero byte, and the iv (16; document 01's term: start block).
+-- An entry of the contents: trial (4 bytes), count of records (2), number of replicates (1), a zero
+-- byte, and the iv (16). (Document 01's term for the iv: start block.)
 abbrev pub trial : List ℕ → ℕ
 trial e = number 0 4 e
 
 abbrev pub count : List ℕ → ℕ
 count e = number 4 2 e
 
--- How many replicates the entry's trial has: byte 6, where 0 is read as 4. The books of past seasons have 0 there, and four replicates.
+-- How many replicates the entry's trial has: byte 6, where 0 is read as 4. The books of past
+-- seasons have 0 there, and four replicates.
 unfoldable pub replicates : List ℕ → ℕ
 replicates e = choose (eqb (getD e 6 0) 0) 4 (getD e 6 0)
 
 abbrev pub iv : List ℕ → List ℕ
 iv e = take 16 (drop 8 e)
 
--- What holds of an entry, given the trial of the entry before it, or 0 before the first: the trial is above that, and so at least 1; there are 1 to 1024
--- records, and at most 8 replicates; byte 7 is zero. (Document 01 calls an entry that breaks this broken.)
+-- What holds of an entry, given the trial of the entry before it, or 0 before the first: the trial
+-- is above that, and so at least 1; there are 1 to 1024 records, and at most 8 replicates; byte 7
+-- is zero. (Document 01 calls an entry that breaks this broken.)
 unfoldable pub entryHolds : ℕ → List ℕ → Bool
 entryHolds previous e = ltb previous (trial e) && leb 1 (count e) && leb (count e) 1024 && leb (replicates e) 8 && eqb (getD e 7 0) 0
 
@@ -61,13 +66,15 @@ recordRow r = number 9 2 r
 abbrev pub recordColumn : List ℕ → ℕ
 recordColumn r = number 11 2 r
 
--- What holds of a plot: row and column are both 0, which means reserve, a spare plant that has no place yet, or both from 1 to 999. (Document 01 has any row
--- and any column; document 02 puts this rule in their place.)
+-- What holds of a plot: row and column are both 0, which means reserve, a spare plant that has no
+-- place yet, or both from 1 to 999. (Document 01 has any row and any column; document 02 puts this
+-- rule in their place.)
 unfoldable pub plotHolds : ℕ → ℕ → Bool
 plotHolds row column = (eqb row 0 && eqb column 0) || (leb 1 row && leb row 999 && leb 1 column && leb column 999)
 
--- What holds of a record, given the entry e of its sheet: the trial is the sheet's, the entry at least 1, the replicate from 1 to the sheet's number of
--- replicates, row and column those of a plot, and the last three bytes zero.
+-- What holds of a record, given the entry e of its sheet: the trial is the sheet's, the entry at
+-- least 1, the replicate from 1 to the sheet's number of replicates, row and column those of a
+-- plot, and the last three bytes zero.
 unfoldable pub recordHolds : List ℕ → List ℕ → Bool
 recordHolds e r =
     eqb (recordTrial r) (trial e)
@@ -81,11 +88,12 @@ unfoldable pub allRecordsHold : List ℕ → List (List ℕ) → Bool
 allRecordsHold e [] = true
 allRecordsHold e (r ∷ rs) = recordHolds e r && allRecordsHold e rs
 
--- A sheet's body, of which every record holds.
+-- Every record of a sheet's body holds.
 abbrev pub sheetHolds : List ℕ → List ℕ → Bool
 sheetHolds e body = allRecordsHold e (pieces 16 (count e) body)
 
--- The head: 1 for a clear book or 2 for a sealed one (document 01's terms); 0; the number n of sheets in two bytes.
+-- The head: the kind, 1 for a clear book or 2 for a sealed one (Document 01's terms); 0; the number
+-- n of sheets in two bytes.
 abbrev pub sheetCount : List ℕ → ℕ
 sheetCount book = number 2 2 book
 
@@ -101,14 +109,15 @@ unfoldable pub recordCount : List (List ℕ) → ℕ
 recordCount [] = 0
 recordCount (e ∷ es) = count e + recordCount es
 
--- Sheet i, counted from 0: its entry, and its body, in front of which stand the records of the i sheets before it.
+-- Sheet i, counted from 0: its entry, and its body, which follows the records of the i sheets
+-- before it.
 abbrev pub sheetEntry : ℕ → List ℕ → List ℕ
 sheetEntry i book = take 24 (drop (24 * i) (drop 4 book))
 
 abbrev pub sheetBody : ℕ → List ℕ → List ℕ
 sheetBody i book = take (16 * count (sheetEntry i book)) (drop (16 * recordCount (pieces 24 i (drop 4 book))) (bodies book))
 
--- Checks 5 to 10, of a book's form; mark is the first byte that the call permits.
+-- Checks 5 to 10, of a book's form; kind is the first byte that the call permits.
 unfoldable pub formChecks : ℕ → List ℕ → List Check
 formChecks kind book =
     check 5 (leb 4 (length book) && leb (length book) 65532)
@@ -119,7 +128,8 @@ formChecks kind book =
     ∷ check 10 (eqb (length book) (4 + 24 * sheetCount book + 16 * recordCount (contents book)))
     ∷ []
 
--- A function of an entry and its body, done to each body in turn: es are the entries, bs their bodies end to end.
+-- A function f of an entry and its body, applied to each body: es are the entries, bs their bodies
+-- end to end.
 unfoldable pub eachBody : (List ℕ → List ℕ → List ℕ) → List (List ℕ) → List ℕ → List ℕ
 eachBody f [] bs = []
 eachBody f (e ∷ es) bs = f e (take (16 * count e) bs) ++ eachBody f es (drop (16 * count e) bs)
@@ -129,15 +139,17 @@ unfoldable pub sheetsHold : (List ℕ → List ℕ → List ℕ) → List (List 
 sheetsHold f [] bs = true
 sheetsHold f (e ∷ es) bs = sheetHolds e (f e (take (16 * count e) bs)) && sheetsHold f es (drop (16 * count e) bs)
 
--- Check 11: every clear record of a book holds. f makes a body clear: `asItIs` in a clear book, and in a sealed one the decryption of the body.
+-- Check 11: every clear record of a book holds. f makes a body clear: `asItIs` in a clear book, and
+-- in a sealed one the decryption of the body.
 unfoldable pub recordsCheck : (List ℕ → List ℕ → List ℕ) → List ℕ → Check
 recordsCheck f book = check 11 (sheetsHold f (contents book) (bodies book))
 
 abbrev pub asItIs : List ℕ → List ℕ → List ℕ
 asItIs e body = body
 
--- CBC (NIST SP 800-38A), over any function E that encrypts a block of 16 bytes and any D that decrypts one: n blocks, after the encrypted block that went
--- before. Each block is added to that one and then encrypted. (document 01's terms for encrypting and decrypting: sealing and opening.)
+-- CBC (NIST SP 800-38A), over any function E that encrypts a block of 16 bytes and any D that
+-- decrypts one: n blocks, given the encrypted block before them. Each block is added to the
+-- encrypted one before it and then encrypted. (Document 01's terms: sealing and opening.)
 unfoldable pub cbcEncrypt : (List ℕ → List ℕ) → ℕ → List ℕ → List ℕ → List ℕ
 cbcEncrypt E zero previous bs = []
 cbcEncrypt E (suc n) previous bs = let c : List ℕ = E (xors previous (take 16 bs)) in c ++ cbcEncrypt E n c (drop 16 bs)
@@ -146,14 +158,15 @@ unfoldable pub cbcDecrypt : (List ℕ → List ℕ) → ℕ → List ℕ → Lis
 cbcDecrypt D zero previous bs = []
 cbcDecrypt D (suc n) previous bs = xors previous (D (take 16 bs)) ++ cbcDecrypt D n (take 16 bs) (drop 16 bs)
 
--- A sheet's body: a chain of its own, which begins at the iv of its entry.
+-- A sheet's body: a chain of its own, which begins with the iv of its entry.
 unfoldable pub encryptBody : (List ℕ → List ℕ) → List ℕ → List ℕ → List ℕ
 encryptBody E e body = cbcEncrypt E (count e) (iv e) body
 
 unfoldable pub decryptBody : (List ℕ → List ℕ) → List ℕ → List ℕ → List ℕ
 decryptBody D e body = cbcDecrypt D (count e) (iv e) body
 
--- A book with another first byte, the rest of its head and its contents as they were, and each body put through f where it stood.
+-- A book with another kind, the rest of its head and its contents as they were, and f applied to
+-- each body in its place.
 unfoldable pub mapBodies : ℕ → (List ℕ → List ℕ → List ℕ) → List ℕ → List ℕ
 mapBodies kind f book = kind ∷ take 3 (drop 1 book) ++ (take (24 * sheetCount book) (drop 4 book) ++ eachBody f (contents book) (bodies book))
 
@@ -165,7 +178,8 @@ formAndRecords kind f book = formChecks kind book ++ (recordsCheck f book ∷ []
 unfoldable pub bookChecks : List Check → ℕ → (List ℕ → List ℕ → List ℕ) → List ℕ → List ℕ → List Check
 bookChecks cs kind f book out = cs ++ (outputCheck (length book) out ∷ formAndRecords kind f book)
 
--- A book encrypted and decrypted by any E and D: the count is R. In a book to be decrypted, check 11 looks at the records after the chain is undone.
+-- A book encrypted and decrypted by any E and D: the count is R. In a book to be decrypted, check
+-- 11 looks at the records after the chain is undone.
 unfoldable pub encryptBookBy : List Check → (List ℕ → List ℕ) → List ℕ → List ℕ → Outcome
 encryptBookBy cs E book out =
     judged (bookChecks cs 1 asItIs book out) (accepted (recordCount (contents book)) (mapBodies 2 (encryptBody E) book))
@@ -174,16 +188,18 @@ unfoldable pub decryptBookBy : List Check → (List ℕ → List ℕ) → List �
 decryptBookBy cs D book out =
     judged (bookChecks cs 2 (decryptBody D) book out) (accepted (recordCount (contents book)) (mapBodies 1 (decryptBody D) book))
 
--- The book that a clear book must become when it is sealed by E, the cipher under given words or under a key; made from E and the clear book alone: no way enters. In each
--- sheet the first record, added to the iv, is encrypted by E, and each later record likewise, added to the encrypted record before it.
+-- The book that a clear book must become when it is sealed by E, the cipher under given words or
+-- under a key; made from E and the clear book alone: it does not depend on the way. In each sheet
+-- the first record, added to the iv, is encrypted by E, and each later record likewise, added to
+-- the encrypted record before it.
 unfoldable pub encryptedBook : (List ℕ → List ℕ) → List ℕ → List ℕ
 encryptedBook E book = mapBodies 2 (encryptBody E) book
 
--- The inverse (opening).
+-- The inverse.
 unfoldable pub decryptedBook : (List ℕ → List ℕ) → List ℕ → List ℕ
 decryptedBook D book = mapBodies 1 (decryptBody D) book
 
--- A book sealed and opened under words: checks 14, 2, 4, 5 to 10, 11; then R, and the book.
+-- A book encrypted and decrypted under words: checks 14, 2, 4, 5 to 10, 11; then R, and the book.
 unfoldable pub encryptBookCall : List ℕ → ℕ → List ℕ → List ℕ → Outcome
 encryptBookCall words way book out = encryptBookBy (wordsAndWay words way) (encryptUnder (wordsFromBytes words)) book out
 

@@ -1,4 +1,5 @@
--- The cases that document 01 marks to be shown of the definitions: input and value of each, in one list.
+-- The cases that document 01 marks to be shown of the definitions: input and value of each, in one
+-- list.
 use mathlib.Core.List.{List, [], _∷_}
 use mathlib.Core.Path.{refl}
 use lib.ListN.{take, replicate}
@@ -14,7 +15,8 @@ use Rattle.planbook_spec.specs.Outcome.{Outcome, answer, after, judged}
 use Rattle.planbook_spec.specs.Checks.{wayCheck, outputCheck, wordsCheck}
 use Rattle.planbook_spec.specs.Book.{number, pieces, entriesHold, recordCount, formChecks, eachBody, sheetsHold, recordsCheck, mapBodies, bookChecks, encryptBookBy, encryptBookCall}
 
--- The empty book, sealed by way 1. It has no record, so the words do not matter: 40 of them, all zero.
+-- The empty book, encrypted by way 1. It has no record, so the words do not matter: 40 of them, all
+-- zero.
 abbrev pub emptyEncrypted : Outcome
 emptyEncrypted = encryptBookCall (replicate 160 0) 1 (0x01 ∷ 0x00 ∷ 0x00 ∷ 0x00 ∷ []) (replicate 4 0)
 

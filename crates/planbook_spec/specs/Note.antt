@@ -1,5 +1,6 @@
--- The note: counter mode (NIST SP 800-38A), and what the call for a note answers. Counter mode takes itself back, so one call both encrypts and decrypts
--- a note. (Document 02's terms: seals and opens it.)
+-- The note: counter mode (NIST SP 800-38A), and what the call for a note answers. Counter mode is
+-- its own inverse, so one call both encrypts and decrypts a note. (Document 02's terms: seals and
+-- opens it.)
 use Prim.Native.Nat.{ℕ, zero, suc, _+_, _/_, _%_, _^_}
 use mathlib.Core.List.{List, [], _∷_, _++_}
 use lib.Dec.{leb}
@@ -10,8 +11,9 @@ use Rattle.planbook_spec.specs.Outcome.{Outcome, accepted, Check, check,
 use Rattle.planbook_spec.specs.Checks.{blockCheck, outputCheck, wordsFromBytes, wordsAndWay}
 use Rattle.planbook_spec.specs.Book.{number}
 
--- Counter block i of a note, from 0 on, where `counter` is the block that the caller gives. Its first twelve bytes stay. The last four count blocks: the
--- number that they write, the highest byte first, is i higher, and after ffffffff it goes on at zero.
+-- Counter block i of a note, from 0 on, where `counter` is the block that the caller gives. Its
+-- first twelve bytes stay. The last four count blocks: the number that they write, the highest byte
+-- first, is i higher, and after ffffffff it goes on at zero.
 unfoldable pub counterBlock : List ℕ → ℕ → List ℕ
 counterBlock counter i = take 12 counter ++ toDigits 256 4 ((number 12 4 counter + i) % 2 ^ 32)
 
@@ -24,8 +26,9 @@ keystream E counter i (suc n) = E (counterBlock counter i) ++ keystream E counte
 unfoldable pub blockCount : List ℕ → ℕ
 blockCount note = (length note + 15) / 16
 
--- Counter mode over any function E that encrypts a block of 16 bytes: the encrypted counter blocks are added to the note. What the last one has more than
--- the note is dropped (`xors` gives as many bytes as the note has), so that a part block takes its leading bytes.
+-- Counter mode over any function E that encrypts a block of 16 bytes: the encrypted counter blocks
+-- are added to the note. What the last one has more than the note is dropped (`xors` gives as many
+-- bytes as the note has), so that a part block uses its leading bytes.
 unfoldable pub ctr : (List ℕ → List ℕ) → List ℕ → List ℕ → List ℕ
 ctr E counter note = xors (keystream E counter 0 (blockCount note)) note
 

@@ -1,5 +1,6 @@
--- Notes under the toy cipher of AnswerCases, worked out by hand, and the edges of the call's checks: computed lists. That a note comes back sees no slip in
--- the counter, since both directions share it; these cases do.
+-- Computed cases: notes under the toy cipher of AnswerCases, worked out by hand, and the edges of
+-- the call's checks. That a note comes back shows no slip in the counter, since both directions
+-- share it; these cases do.
 use Prim.Native.Nat.{ℕ, _*_, _^_}
 use mathlib.Core.List.{List, [], _∷_, _++_}
 use mathlib.Core.Path.{refl}
@@ -19,8 +20,9 @@ prefix = rising 12 0x10
 abbrev pub counterFrom : ℕ → List ℕ
 counterFrom n = prefix ++ toDigits 256 4 n
 
--- A note of 64 bytes, and what it is encrypted to from the last number on: its four counter blocks count ffffffff, 0, 1 and 2. The toy has each rotated by
--- one place, so that its first byte, 10, comes last.
+-- A note of 64 bytes, and what it is encrypted to from the last number on: its four counter blocks
+-- count ffffffff, 0, 1 and 2. The toy rotates each by one place, so that its first byte, 10, comes
+-- last.
 abbrev pub text : List ℕ
 text = rising 64 0x80
 
@@ -36,14 +38,16 @@ toyNote note = ctr toyEncrypt (counterFrom 0xffffffff) note
 
 pub noteCases : List Case
 noteCases =
-    -- counter blocks: the one that is given; after ffffffff zero, and the first twelve bytes as they were; the last byte runs over into the one before
+    -- counter blocks: the one that is given; after ffffffff zero, and the first twelve bytes as
+    -- they were; the last byte runs over into the one before
     (counterBlock (counterFrom 0xffffffff) 0 gives prefix ++ (0xff ∷ 0xff ∷ 0xff ∷ 0xff ∷ []))
     ∷ (counterBlock (counterFrom 0xffffffff) 1 gives prefix ++ (0 ∷ 0 ∷ 0 ∷ 0 ∷ []))
     ∷ (counterBlock (counterFrom 0xfffffffe) 3 gives prefix ++ (0 ∷ 0 ∷ 0 ∷ 1 ∷ []))
     ∷ (counterBlock (replicate 12 0xff ++ (0xff ∷ 0xff ∷ 0xff ∷ 0xff ∷ [])) 1 gives replicate 12 0xff ++ (0 ∷ 0 ∷ 0 ∷ 0 ∷ []))
     ∷ (counterBlock (counterFrom 0x010203ff) 1 gives prefix ++ (1 ∷ 2 ∷ 4 ∷ 0 ∷ []))
     ∷ (counterBlock (counterFrom 0x01fffc01) 1023 gives prefix ++ (2 ∷ 0 ∷ 0 ∷ 0 ∷ []))
-    -- the blocks of notes of 0, 1, 15, 16, 17, 33 and 64 bytes; two counter blocks end to end, each rotated, and no more
+    -- the blocks of notes of 0, 1, 15, 16, 17, 33 and 64 bytes; two counter blocks end to end, each
+    -- rotated, and no more
     ∷ (blockCount [] ∷ blockCount (take 1 text) ∷ blockCount (take 15 text) ∷ blockCount (take 16 text) ∷ blockCount (take 17 text) ∷ blockCount (take 33 text) ∷ blockCount text ∷ []
     gives 0 ∷ 1 ∷ 1 ∷ 1 ∷ 2 ∷ 3 ∷ 4 ∷ [])
     ∷ (keystream toyEncrypt (counterFrom 6) 1 2 gives rising 11 0x11 ++ (0 ∷ 0 ∷ 0 ∷ 7 ∷ 0x10 ∷ []) ++ rising 11 0x11 ++ (0 ∷ 0 ∷ 0 ∷ 8 ∷ 0x10 ∷ []))
@@ -66,7 +70,8 @@ pub noteCases-hold : AllHold noteCases
 unfolding noteCases rising allSame fromDigits toDigits xors answer after judged blockCheck outputCheck number counterBlock keystream blockCount ctr noteCheck noteChecks cryptNoteBy
 noteCases-hold = computed noteCases refl
 
--- The answer under words of w bytes, by a way, with a counter block of c bytes, a note of n and an output of m.
+-- The answer under words of w bytes, by a way, with a counter block of c bytes, a note of n and an
+-- output of m.
 abbrev pub noted : ℕ → ℕ → ℕ → ℕ → ℕ → ℕ
 noted w way c n m = answer (cryptNoteCall (replicate w 0) way (replicate c 0) (replicate n 0) (replicate m 0))
 

@@ -1,5 +1,5 @@
--- Laws of outcomes. The first demand rests on one of them: a list of checks refuses under c exactly where c is the first that fails, and accepts exactly
--- where all are passed.
+-- Laws of outcomes. The first demand rests on one of them: a list of checks refuses under c exactly
+-- where c is the first that fails, and accepts exactly where all are passed.
 use Prim.Native.Nat.{ℕ, _*_, _^_}
 use mathlib.Core.Bool.{Bool, true, false}
 use mathlib.Core.List.{List, [], _∷_, _++_}
@@ -40,7 +40,8 @@ judged-append [] ds o = refl
 judged-append (check c true ∷ cs) ds o = judged-append cs ds o
 judged-append (check c false ∷ cs) ds o = refl
 
--- What a call states that has these checks and, where it is accepted, this count and these bytes.
+-- What is stated of a call that has these checks and, where it is accepted, this count and these
+-- bytes.
 pub record Judges (cs : List Check) (n : ℕ) (bs : List ℕ) (o : Outcome) : Type 0 where
   pub refuses : (c : ℕ) → (o ≡ refused c) ↔ FirstFailure cs c
   pub accepts : (o ≡ accepted n bs) ↔ AllPass cs
@@ -77,7 +78,7 @@ judges cs n bs =
       either = ⊎-map (λ f. (f .0, judged-first (f .1) (accepted n bs))) (λ p. judged-pass p (accepted n bs)) (first-or-all cs);
     }
 
--- Checks of a list taken apart.
+-- Lists of passed checks, in parts and joined.
 pub pass-head : {c : ℕ} {b : Bool} {cs : List Check} → AllPass (check c b ∷ cs) → b ≡ true
 pass-head (more p) = refl
 
@@ -100,7 +101,8 @@ pass-append (more p) q = more (pass-append p q)
 pub pass-check : {c : ℕ} {b : Bool} → b ≡ true → AllPass (check c b ∷ [])
 pass-check {c} {b} e = subst (λ (t : Bool). AllPass (check c t ∷ [])) (sym e) (more none)
 
--- A call's contract pins its number and its output: two answers to one outcome, with one lent output, are equal in both.
+-- A call's contract pins its number and its output: two answers to one outcome, with one output at
+-- entry, are equal in both.
 pub answers-equal : {o : Outcome} {out : List ℕ} {r r′ : ℕ} {exit exit′ : List ℕ} → Answers o out r exit → Answers o out r′ exit′ → (r ≡ r′) × (exit ≡ exit′)
 answers-equal a b = (a .number ∙ sym (b .number), a .output ∙ sym (b .output))
 
@@ -121,7 +123,7 @@ pub refused-is : {o : Outcome} {c : ℕ} (out : List ℕ) → o ≡ refused c �
 unfolding answer after
 refused-is out e = record { number = ap answer e; untouched = ap (after out) e }
 
--- One check at the head of a list, of which it is known whether it is passed.
+-- The first check of a list, where it is known whether it passes.
 pub judged-true : {b : Bool} → b ≡ true → (c : ℕ) (cs : List Check) (o : Outcome) → judged (check c b ∷ cs) o ≡ judged cs o
 unfolding judged
 judged-true e c cs o = ap (λ (t : Bool). judged (check c t ∷ cs) o) e

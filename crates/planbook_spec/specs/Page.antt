@@ -1,5 +1,6 @@
--- The planting page of a sheet, and what the call for it answers. It is text, to be pinned at a bench: a heading, and a line for each record in the order of
--- the body. Every line has 31 characters, each of them a byte below 128 (ASCII), and a line feed.
+-- The planting page of a sheet, and what the call for it answers. It is text, to be pinned at a
+-- bench: a heading, and a line for each record in the order of the body. Every line has 31
+-- characters, each of them a byte below 128 (ASCII), and a line feed.
 use Prim.Native.Nat.{ℕ, zero, suc, _+_, _-_, _*_, _/_, _%_}
 use mathlib.Core.List.{List, [], _∷_, _++_}
 use lib.Dec.{ltb}
@@ -9,8 +10,8 @@ use Rattle.planbook_spec.specs.Outcome.{Outcome, accepted, Check, check,
 use Rattle.planbook_spec.specs.Checks.{outputCheck}
 use Rattle.planbook_spec.specs.Book.{pieces, count, recordTrial, recordEntry, recordReplicate, recordRow, recordColumn, sheetCount, sheetEntry, sheetBody, asItIs, formAndRecords}
 
--- The decimal digits of a number below 10 ^ k, the highest first, with no zero in front; 0 is one digit. (Of a greater number the last k digits.) The digit 0
--- is the character 48.
+-- The decimal digits of a number below 10 ^ k, the highest first, without leading zeros; 0 is one
+-- digit. (Of a greater number the last k digits.) The digit 0 is the character 48.
 unfoldable pub decimal : ℕ → ℕ → List ℕ
 decimal zero n = []
 decimal (suc k) n = choose (ltb n 10) [] (decimal k (n / 10)) ++ ((48 + n % 10) ∷ [])
@@ -20,7 +21,7 @@ unfoldable pub spaces : ℕ → List ℕ
 spaces zero = []
 spaces (suc n) = 32 ∷ spaces n
 
--- A text at the right of a field of w characters, filled with spaces in front.
+-- A text at the right of a field of w characters, with spaces before it.
 unfoldable pub rightAligned : ℕ → List ℕ → List ℕ
 rightAligned w text = spaces (w - length text) ++ text
 
@@ -41,7 +42,8 @@ heading =
     (rightAligned 3 (82 ∷ 79 ∷ 87 ∷ []))
     (rightAligned 3 (67 ∷ 79 ∷ 76 ∷ []))
 
--- A record: trial, entry, replicate, row and column. Row and column of one in reserve are 0, and are shown so.
+-- A record: trial, entry, replicate, row and column. Row and column of one in reserve are 0, and
+-- are shown so.
 unfoldable pub line : List ℕ → List ℕ
 line r =
     fields (numberField 10 (recordTrial r))
@@ -65,8 +67,8 @@ lineCount i book = count (sheetEntry i book) + 1
 unfoldable pub sheetCheck : ℕ → List ℕ → Check
 sheetCheck i book = check 13 (ltb i (sheetCount book))
 
--- The checks of the call: 5 to 11 of a clear book, of all its sheets, then 13, and 4 last, since the length of the page is known only of a sheet that there
--- is.
+-- The checks of the call: 5 to 11 of a clear book, of all its sheets, then 13, and 4 last, since
+-- only a sheet that exists has a page whose length is known.
 unfoldable pub pageChecks : List ℕ → ℕ → List ℕ → List Check
 pageChecks book i out = formAndRecords 1 asItIs book ++ (sheetCheck i book ∷ outputCheck (32 * lineCount i book) out ∷ [])
 

@@ -1,5 +1,6 @@
--- Planting pages as bytes, and the edges of the call's checks: computed lists. That a page says its whole sheet sees no slip in how it says it: a line with row
--- and column exchanged says as much. These cases do.
+-- Computed cases: planting pages as bytes, and the edges of the call's checks. That a page shows
+-- its whole sheet shows no slip in how: a line with row and column exchanged shows as much. These
+-- cases do.
 use Prim.Native.Nat.{ℕ, _-_, _*_, _^_}
 use mathlib.Core.List.{List, [], _∷_, _++_}
 use mathlib.Core.Path.{refl}
@@ -25,7 +26,7 @@ greatest = sets (sets (set small 10 8) 4 (replicate 4 255)) 28 (replicate 8 255 
 abbrev pub three : List ℕ
 three = 1 ∷ 0 ∷ 0 ∷ 3 ∷ entryWith 41 2 0x10 ++ entryWith 42 1 0x20 ++ entryWith 43 1 0x30 ++ rising 64 0x80
 
--- The call's answer, and its output where m bytes are lent.
+-- The call's answer, and its output where m bytes are passed.
 abbrev pub paged : List ℕ → ℕ → ℕ → ℕ
 paged book i m = answer (pageCall book i (replicate m 0))
 
@@ -74,7 +75,8 @@ pageCases =
     ∷ (sheetBody 0 three gives rising 32 0x80)
     ∷ (sheetBody 1 three gives rising 16 0xa0)
     ∷ (sheetBody 2 three gives rising 16 0xb0)
-    -- digits: 0; 9 and 10; zeros within and at the end; the greatest number of nine digits, and the least of ten
+    -- digits: 0; 9 and 10; zeros within and at the end; the greatest number of nine digits, and the
+    -- least of ten
     ∷ (decimal 10 0 ++ (0 ∷ decimal 10 9) ++ (0 ∷ decimal 10 10) ++ (0 ∷ decimal 3 100) ++ (0 ∷ decimal 3 101)
     gives 0x30 ∷ 0 ∷ 0x39 ∷ 0 ∷ 0x31 ∷ 0x30 ∷ 0 ∷ 0x31 ∷ 0x30 ∷ 0x30 ∷ 0 ∷ 0x31 ∷ 0x30 ∷ 0x31 ∷ [])
     ∷ (decimal 10 999999999 gives replicate 9 0x39)
@@ -95,7 +97,7 @@ pageCases-hold = computed pageCases refl
 abbrev pub beyond : ℕ
 beyond = 2 ^ 64 - 1
 
--- Checks 5 to 11, 13 and 4. Each of the first seven stands beside a 13 and a 4 that fail too.
+-- Checks 5 to 11, 13 and 4. Where one of the first seven fails, 13 and 4 fail too.
 pub pageCheckCases : List Case
 pageCheckCases =
     (paged (1 ∷ 0 ∷ 0 ∷ []) beyond 0 ∷ paged (replicate 65533 1) beyond 0 ∷ paged (replicate 65532 1) beyond 0 ∷ [] gives 5 * 2 ^ 32 ∷ 5 * 2 ^ 32 ∷ 6 * 2 ^ 32 ∷ [])
@@ -107,12 +109,13 @@ pageCheckCases =
     -- 11 before 13, in either sheet; and of the whole book, whichever sheet is asked for
     ∷ (paged (set large 60 0) beyond 0 ∷ paged (set large 92 0) beyond 0 ∷ [] gives 11 * 2 ^ 32 ∷ 11 * 2 ^ 32 ∷ [])
     ∷ (paged (set large 92 0) 0 96 ∷ paged (set large 60 0) 1 64 ∷ paged (set large 76 0) 1 64 ∷ [] gives 11 * 2 ^ 32 ∷ 11 * 2 ^ 32 ∷ 11 * 2 ^ 32 ∷ [])
-    -- 13: of a book of no sheets, of two; compared whole; before 4
+    -- check 13: of a book of no sheets, of two; compared whole; before 4
     ∷ (paged (1 ∷ 0 ∷ 0 ∷ 0 ∷ []) 0 32 ∷ paged large 2 32 ∷ paged large 2 64 ∷ paged large 3 0 ∷ paged large (2 ^ 32) 96 ∷ paged large beyond 96 ∷ []
     gives replicate 6 (13 * 2 ^ 32))
-    -- 4: a byte too few, a byte too many, no heading, a line more, the length of the other sheet
+    -- check 4: a byte too few, a byte too many, no heading, a line more, the length of the other
+    -- sheet
     ∷ (paged large 0 95 ∷ paged large 0 97 ∷ paged large 0 64 ∷ paged large 0 128 ∷ paged large 1 96 ∷ paged large 1 0 ∷ [] gives replicate 6 (4 * 2 ^ 32))
-    -- a refused call leaves what was lent
+    -- a refused call leaves the output as it was
     ∷ (shown large 2 3 ++ shown (set large 92 0) 0 2 ++ shown large 1 1 gives 13 * 2 ^ 32 ∷ 0 ∷ 0 ∷ 0 ∷ 11 * 2 ^ 32 ∷ 0 ∷ 0 ∷ 4 * 2 ^ 32 ∷ 0 ∷ [])
     ∷ []
 
