@@ -1,5 +1,6 @@
--- Books encrypted and decrypted by any block cipher: each call takes the other back, and two books encrypted alike are alike. The checks about words
--- and way stay open here, a list cs that is passed.
+-- Books encrypted and decrypted by any block cipher: each call undoes the other, and two books
+-- encrypted alike are alike. The checks about words and way stay open here, a list cs that is
+-- passed.
 use Prim.Native.Nat.{ℕ}
 use mathlib.Core.List.{List}
 use mathlib.Core.Logic.{_↔_}
@@ -32,8 +33,9 @@ book-shape : (cs : List Check) (kind : ℕ) (f : List ℕ → List ℕ → List 
     → Shaped kind book
 book-shape cs kind f book out r p = shape kind book r (pass-left (formChecks kind book) _ (book-form cs kind f book out p))
 
--- One call codes by f and looks at the records after h. The other codes by k and looks at them after g. Where g after f is h, and k after f is nothing,
--- the other call accepts what the one has made, and gives the book back.
+-- One call applies f to the bodies and looks at the records after h. The other applies k and looks
+-- at them after g. Where g after f is h, and k after f changes nothing, the other call accepts what
+-- the one has made, and gives the book back.
 module _ {f g h k : List ℕ → List ℕ → List ℕ} (kind kind′ : ℕ) (cs cs′ : List Check) (book out out′ : List ℕ) where
   comes-back : Below 256 book
       → AllPass (bookChecks cs kind h book out)
@@ -82,12 +84,13 @@ module _ (E D : List ℕ → List ℕ) (block : BlockCipher E D) where
       let s : Shaped 2 book = book-shape cs 2 (decryptBody D) book out r (p .checks) in
       rw (← p .sameBytes, ← p .sameCount) (comes-back 2 1 cs cs′ book out out′ r (p .checks) (entries-as-decrypted s) (entries-decrypted s) q e)
 
-  -- What an accepted call gives is the recoded book.
+  -- What an accepted call gives is the book with its bodies encrypted or decrypted.
   pub encrypted-is : (cs : List Check) (book out : List ℕ) {n : ℕ} {bs : List ℕ} → encryptBookBy cs E book out ≡ accepted n bs → bs ≡ mapBodies 2 (encryptBody E) book
   unfolding encryptBookBy
   encrypted-is cs book out a = sym (passed _ _ _ a .sameBytes)
 
-  -- The clear book can be read off the encrypted one, whichever checks about words and way were passed.
+  -- Two encrypted books are equal exactly where the clear ones are, whichever checks about words
+  -- and way were passed.
   pub encrypted-alike : (cs cs′ : List Check) (a b out out′ : List ℕ) {m n : ℕ} {x y : List ℕ} → Below 256 a → Below 256 b
       → encryptBookBy cs E a out ≡ accepted m x → encryptBookBy cs′ E b out′ ≡ accepted n y → (x ≡ y) ↔ (a ≡ b)
   unfolding encryptBookBy
@@ -102,7 +105,7 @@ module _ (E D : List ℕ → List ℕ) (block : BlockCipher E D) where
       ap (mapBodies 1 (decryptBody D)) (sym (q .sameBytes)) ∙ mapBodies-through 1 2 t (entries-encrypted t) ∙ mapBodies-asItIs t in
       (λ e. sym fromX ∙ ap (mapBodies 1 (decryptBody D)) e ∙ fromY, λ e. sym (p .sameBytes) ∙ ap (mapBodies 2 (encryptBody E)) e ∙ q .sameBytes)
 
-  -- The book that an accepted call gives is as long as the lent output.
+  -- The book that an accepted call gives is as long as the given output.
   pub encrypted-length : (cs : List Check) (book out : List ℕ) {n : ℕ} {bs : List ℕ} → Below 256 book → encryptBookBy cs E book out ≡ accepted n bs → length bs ≡ length out
   unfolding encryptBookBy
   encrypted-length cs book out {n} {bs} r a =

@@ -1,4 +1,5 @@
--- A book recoded: its head and contents stay, its checks stay, and a coding that takes the bodies back takes the book back.
+-- A book with a function applied to its bodies: its head, contents and checks stay, and a function
+-- that undoes that of the bodies undoes that of the book.
 use Prim.Native.Nat.{ℕ, zero, suc, _+_, _*_, _^_, _≤_, _<_}
 use mathlib.Core.Bool.{false≢true}
 use mathlib.Core.List.{List, [], _∷_, _++_}
@@ -67,7 +68,7 @@ module _ {f g h : List ℕ → List ℕ → List ℕ} (n : ℕ) (bs : List ℕ) 
 
 -- ---- whole books
 
--- A book with the first byte mark, and as long as its contents say.
+-- A book with the first byte kind, and as long as its contents say.
 pub data Shaped (kind : ℕ) : List ℕ → Type 0 where
   shaped : (b c d : ℕ) {bs : List ℕ}
       → Bytes (24 * fromDigits 256 (c ∷ d ∷ []) + 16 * recordCount (pieces 24 (fromDigits 256 (c ∷ d ∷ [])) bs)) bs
@@ -116,7 +117,7 @@ unfolding number
 shaped-entries (shaped b c d {bs = bs} q) = pieces-bytes 24 (fromDigits 256 (c ∷ d ∷ [])) _ q
 
 module _ {f g h : List ℕ → List ℕ → List ℕ} (kind kind′ : ℕ) where
-  -- The recoded book has the length of the book, its contents, and its checks.
+  -- The changed book has the length of the book, its contents, and its checks.
   pub mapBodies-length : {book : List ℕ} → Shaped kind book → Every (Through f g h) (contents book) → length (mapBodies kind′ f book) ≡ length book
   unfolding mapBodies number
   mapBodies-length (shaped b c d {bs = bs} q) t =
@@ -135,12 +136,12 @@ module _ {f g h : List ℕ → List ℕ → List ℕ} (kind kind′ : ℕ) where
   unfolding mapBodies number recordsCheck
   mapBodies-records (shaped b c d {bs = bs} q) t = ap (check 11) (rest-sheets _ bs q t)
 
-  -- The coding f of a book that is followed by g comes to h.
+  -- f applied to the bodies, and then g, comes to h.
   pub mapBodies-through : {book : List ℕ} → Shaped kind book → Every (Through f g h) (contents book) → mapBodies kind g (mapBodies kind′ f book) ≡ mapBodies kind h book
   unfolding mapBodies number
   mapBodies-through (shaped b c d {bs = bs} q) t = ap (λ (l : List ℕ). kind ∷ b ∷ c ∷ d ∷ l) (rest-through _ bs q t)
 
--- A book recoded in nothing but its own first byte.
+-- A book of which nothing is changed: its kind is its own.
 pub mapBodies-asItIs : {kind : ℕ} {book : List ℕ} → Shaped kind book → mapBodies kind asItIs book ≡ book
 unfolding mapBodies number
 mapBodies-asItIs {kind} (shaped b c d {bs = bs} q) =

@@ -18,7 +18,7 @@ pub data Way : ℕ → Type 0 where
   two : Way 2
   three : Way 3
 
--- The permitted lengths of lent words, in bytes: 40, 48 or 56 words.
+-- The permitted lengths of given words, in bytes: 40, 48 or 56 words.
 pub data WordsLength : ℕ → Type 0 where
   forty : WordsLength 160
   fortyEight : WordsLength 192
@@ -84,7 +84,7 @@ block-size block p = eqb-true _ _ (pass-head p)
 pub wordsAndWay-passes : (words : List ℕ) {w : ℕ} → WordsLength (length words) → Way w → AllPass (wordsAndWay words w)
 wordsAndWay-passes words k w = pass-append (words-passes k) (way-passes w)
 
--- Words with which one call has passed pass with any other, by any permitted way.
+-- Words that have passed in one call pass in any other, by any permitted way.
 pub words-again : (words : List ℕ) {w : ℕ} {cs : List Check} → AllPass (wordsCheck (length words) ∷ cs) → Way w → AllPass (wordsAndWay words w)
 words-again words p w = wordsAndWay-passes words (words-permitted p) w
 

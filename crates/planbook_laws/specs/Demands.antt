@@ -1,6 +1,8 @@
--- The three demands, of what the calls answer. A call's contract says that its number and its output are those of the outcome named here, so these
--- theorems hold of the program. Keys, words, books and blocks are rows of bytes: Below 256. Demands 2 and 3 are shown under any words of a permitted count, and
--- then, as corollaries under their old names, under one key: the words lent are those that the call for it has written.
+-- The three demands, of what the calls answer. A call's contract says that its number and its
+-- output are those of the outcome named here, so these theorems hold of the program. Keys, words,
+-- books and blocks are lists of bytes: Below 256. Demands 2 and 3 are shown under any words of a
+-- permitted count, and then, as corollaries under their old names, under one key: the words passed
+-- are those that the call for it has written.
 use Prim.Native.Nat.{ℕ, _*_, _^_}
 use mathlib.Core.List.{List, [], _∷_, _++_}
 use mathlib.Core.Logic.{_↔_}
@@ -23,8 +25,9 @@ use Rattle.planbook_spec.specs.Book.{number, pieces, entriesHold, contents, rec
 use Rattle.planbook_laws.specs.Undoing.{BlockCipher}
 use Rattle.planbook_laws.specs.BookCipher.{encrypted-decrypts, decrypted-encrypts, encrypted-is, encrypted-alike}
 
--- ---- demand 1: each call is refused under c exactly where c is the first of its checks that fails, and else it is accepted, with the count and the
--- bytes named here. (OutcomeLaws: what a refusal answers, and that it leaves the output as it was.)
+-- ---- demand 1: each call is refused under c exactly where c is the first of its checks that
+-- fails, and else it is accepted, with the count and the bytes named here. (OutcomeLaws: what a
+-- refusal answers, and that it leaves the output as it was.)
 
 pub demand1-constants : (keyLength : ℕ) (out : List ℕ)
     → Judges (keyCheck keyLength ∷ outputCheck (4 * constantCount keyLength) out ∷ []) (constantCount keyLength) (bytesOf (constants keyLength)) (constantsCall keyLength out)
@@ -61,13 +64,14 @@ demand1-decryptBook words way book out = judges _ _ _
 pub cipherUnder : {w : List ℕ} → Below (2 ^ 32) w → BlockCipher (encryptUnder w) (decryptUnder w)
 cipherUnder h = record { encrypted = decrypt-undoes-encrypt-under h; decrypted = encrypt-undoes-decrypt-under h }
 
--- The words that a call is lent.
+-- The words that a call is given.
 pub cipherFromBytes : {words : List ℕ} → Below 256 words → BlockCipher (encryptUnder (wordsFromBytes words)) (decryptUnder (wordsFromBytes words))
 unfolding wordsFromBytes
 cipherFromBytes h = cipherUnder (below-numbersOf (lit< tt) 4 _ h)
 
--- ---- demand 2: under the same words, what one call has made the other takes back, by any of the ways each time. (That blocks, keys and chains are those of
--- CLEFIA and of CBC is in the definitions that the outcomes name.)
+-- ---- demand 2: under the same words, what one call has made the other undoes, by any of the ways
+-- each time. (That blocks, keys and chains are those of CLEFIA and of CBC is in the definitions
+-- that the outcomes name.)
 
 module _ (words : List ℕ) (bytes : Below 256 words) (way way′ : ℕ) (permitted : Way way′) where
   -- A sealed book opens to the clear book.
@@ -84,7 +88,7 @@ module _ (words : List ℕ) (bytes : Below 256 words) (way way′ : ℕ) (permit
   demand2-encrypts-under book out out′ r a e =
       decrypted-encrypts _ _ (cipherFromBytes bytes) (wordsAndWay words way) (wordsAndWay words way′) book out out′ r a (words-again words (passed _ _ _ a .checks) permitted) e
 
-  -- So with single blocks: what one call has made, by F, the other one, by G, takes back.
+  -- So with single blocks: what one call has made, by F, the other one, by G, undoes.
   block-comes-back : {F G : List ℕ → List ℕ} → Undone (Bytes 16) F G → (block out out′ : List ℕ) {n : ℕ} {bs : List ℕ} → Below 256 block → length out′ ≡ 16
       → judged (blockChecks (wordsAndWay words way) block out) (accepted 1 (F block)) ≡ accepted n bs
       → judged (blockChecks (wordsAndWay words way′) bs out′) (accepted 1 (G bs)) ≡ accepted n block
@@ -106,7 +110,8 @@ module _ (words : List ℕ) (bytes : Below 256 words) (way way′ : ℕ) (permit
   unfolding encryptBlockCall decryptBlockCall
   demand2-block-encrypts-under = block-comes-back (cipherFromBytes bytes .decrypted)
 
--- Under one key: the first call is lent words of the key, and the second one the same or those that were expanded once more, by whichever way.
+-- Under one key: the first call is given words of the key, and the second one the same or those
+-- that were expanded once more, by whichever way.
 module _ (key : List ℕ) {words words′ : List ℕ} (lent : Expanded key words) (lent′ : Expanded key words′) (way way′ : ℕ) (permitted : Way way′) where
   same : words′ ≡ words
   same = same-words lent′ lent
@@ -127,15 +132,15 @@ module _ (key : List ℕ) {words words′ : List ℕ} (lent : Expanded key words
       → decryptBlockCall words way block out ≡ accepted n bs → encryptBlockCall words′ way′ bs out′ ≡ accepted n block
   demand2-block-encrypts block out out′ r e a = rw same (demand2-block-encrypts-under words (expanded-bytes lent) way way′ permitted block out out′ r e a)
 
--- ---- demand 3: of two clear books a and b that sealing accepts under the same words, each by whichever way. A sealed book is the whole lent output afterwards;
--- E is what each must be made by.
+-- ---- demand 3: of two clear books a and b that sealing accepts under the same words, each by
+-- whichever way. A sealed book is the whole output afterwards; E is what each must be made by.
 
 pub record EncryptedAlike (E : List ℕ → List ℕ) (a b x y : List ℕ) : Type 0 where
   pub alike : (x ≡ y) ↔ (a ≡ b)
   pub first : x ≡ encryptedBook E a
   pub second : y ≡ encryptedBook E b
 
--- The two are made by the cipher's data part under the words lent.
+-- The two are made by the cipher's data part under the words given.
 pub demand3-under : (words : List ℕ) → Below 256 words → (way way′ : ℕ) (a b out out′ : List ℕ) → Below 256 a → Below 256 b
     → Accepted (encryptBookCall words way a out) → Accepted (encryptBookCall words way′ b out′)
     → EncryptedAlike (encryptUnder (wordsFromBytes words)) a b (after out (encryptBookCall words way a out)) (after out′ (encryptBookCall words way′ b out′))
@@ -150,7 +155,8 @@ demand3-under words bytes way way′ a b out out′ ra rb pa pb =
       second = encrypted-is _ _ c (wordsAndWay words way′) b out′ eb;
     }
 
--- Under one key, whose words were expanded for each of the two by whichever way: they are made by the cipher under the key.
+-- Under one key, whose words were expanded for each of the two by whichever way: they are made by
+-- the cipher under the key.
 pub demand3 : (key : List ℕ) → Below 256 key → {words words′ : List ℕ} → Expanded key words → Expanded key words′ → (way way′ : ℕ) (a b out out′ : List ℕ) → Below 256 a → Below 256 b
     → Accepted (encryptBookCall words way a out) → Accepted (encryptBookCall words′ way′ b out′)
     → EncryptedAlike (encrypt key) a b (after out (encryptBookCall words way a out)) (after out′ (encryptBookCall words′ way′ b out′))
@@ -160,7 +166,8 @@ demand3 key bytes {words} lent lent′ way way′ a b out out′ ra rb pa pb =
     (rw (words-expanded bytes lent) at
     (demand3-under words (expanded-bytes lent) way way′ a b out out′ ra rb pa (rw (same-words lent′ lent) at pb)))
 
--- The empty book, under any words of a permitted count and by any way: it is sealed to its head with another first byte, with the count 0.
+-- The empty book, under any words of a permitted count and by any way: it is sealed to its head
+-- with another first byte, with the count 0.
 pub empty-book : (words out : List ℕ) {way : ℕ} → WordsLength (length words) → Way way → length out ≡ 4
     → encryptBookCall words way (1 ∷ 0 ∷ 0 ∷ 0 ∷ []) out ≡ accepted 0 (2 ∷ 0 ∷ 0 ∷ 0 ∷ [])
 unfolding fromDigits number pieces entriesHold recordCount formChecks eachBody sheetsHold recordsCheck mapBodies bookChecks encryptBookBy encryptBookCall

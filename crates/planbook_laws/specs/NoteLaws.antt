@@ -1,5 +1,6 @@
--- Theorems of notes. Those of counter mode hold for any E that gives blocks of 16 bytes, most of them for any E at all; those of the call are over any list of
--- checks about words and way, and are then taken to words and to keys.
+-- Theorems of notes. Those of counter mode hold for any E that gives blocks of 16 bytes, most of
+-- them for any E at all. Those of the call hold for any list of checks about words and way, and
+-- then under words and under keys.
 use Prim.Native.Nat.{ℕ, zero, suc, _+_, _*_, _%_, _^_, _≤_, _<_}
 use mathlib.Core.List.{List, [], _∷_, _++_}
 use mathlib.Core.Logic.{_↔_}
@@ -35,7 +36,8 @@ counter-first {counter} h =
     let digits : toDigits 256 4 (fromDigits 256 (drop 12 counter)) ≡ drop 12 counter = rw short at (to-from (lit< tt) (below-drop 12 (h .below))) in
     rw (rest, add-zero, mod-eq-of-lt (rw short at small), digits) (take-append-drop 12 counter)
 
--- Two counter blocks of one note are equal only where they are one: up to 2 ^ 32 blocks none comes twice.
+-- Two counter blocks of one note are equal only where they are one: up to 2 ^ 32 blocks none comes
+-- twice.
 pub counters-differ : (counter : List ℕ) {i j : ℕ} → i < 2 ^ 32 → j < 2 ^ 32 → counterBlock counter i ≡ counterBlock counter j → i ≡ j
 unfolding counterBlock
 counters-differ counter {i} {j} h k e =
@@ -57,12 +59,12 @@ pub length-ctr : (E : List ℕ → List ℕ) (counter note : List ℕ) → lengt
 unfolding ctr
 length-ctr E counter note = length-xors _ note
 
--- The same operation takes it back.
+-- The same operation undoes it.
 pub ctr-back : (E : List ℕ → List ℕ) (counter note : List ℕ) → ctr E counter (ctr E counter note) ≡ note
 unfolding ctr blockCount
 ctr-back E counter note = rw length-xors (xors-cancel _ note)
 
--- So two texts, of whatever lengths, come to the same bytes only where they are equal.
+-- So two texts, of whatever lengths, become the same bytes only where they are equal.
 pub ctr-injective : (E : List ℕ → List ℕ) (counter : List ℕ) {a b : List ℕ} → ctr E counter a ≡ ctr E counter b → a ≡ b
 ctr-injective E counter {a} {b} e = sym (ctr-back E counter a) ∙ ap (ctr E counter) e ∙ ctr-back E counter b
 
@@ -77,7 +79,8 @@ module _ (E : List ℕ → List ℕ) (counter : List ℕ) (sixteen : (i : ℕ) �
       rw (p, ← drop-drop (16 * i) 16 (E (counterBlock counter j) ++ keystream E counter (j + 1) n), drop-at (E (counterBlock counter j)) (keystream E counter (j + 1) n) 16 (sixteen j))
       (keystream-block n (j + 1) i (omega arith) ∙ ap (λ (x : ℕ). E (counterBlock counter x)) q)
 
-  -- The equation of the standard: block i of a note, or the part that there is of it, has the encrypted counter block i added to it.
+  -- The equation of the standard: block i of a note, or the part that there is of it, has the
+  -- encrypted counter block i added to it.
   pub ctr-block : (note : List ℕ) (i : ℕ) → 16 * i < length note
       → take 16 (drop (16 * i) (ctr E counter note)) ≡ xors (E (counterBlock counter i)) (take 16 (drop (16 * i) note))
   unfolding ctr blockCount
@@ -94,7 +97,7 @@ note-passes : (note : List ℕ) → length note ≤ 16384 → AllPass (noteCheck
 unfolding noteCheck
 note-passes note h = pass-check (le-leb (length note) 16384 h)
 
--- What checks 3, 4 and 12 have told.
+-- What checks 3, 4 and 12 have shown.
 pub record NotePassed (counter note out : List ℕ) : Type 0 where
   pub block : length counter ≡ 16
   pub room : length out ≡ length note
@@ -134,14 +137,15 @@ unfolding cryptNoteCall cryptNoteBy
 demand1-cryptNote words way counter note out = judges _ _ _
 
 module _ (words : List ℕ) (way way′ : ℕ) (counter : List ℕ) where
-  -- What the call has made of a note, it makes the note of.
+  -- Applied to what it has made of a note, the call gives the note.
   pub note-comes-back-under : Way way′ → (note out out′ : List ℕ) {n : ℕ} {bs : List ℕ} → cryptNoteCall words way counter note out ≡ accepted n bs → length out′ ≡ length note
       → cryptNoteCall words way′ counter bs out′ ≡ accepted n note
   unfolding cryptNoteCall cryptNoteBy noteChecks
   note-comes-back-under permitted note out out′ a e =
       crypted-back _ (wordsAndWay words way) (wordsAndWay words way′) counter note out out′ a (words-again words (passed _ _ _ a .checks) permitted) e
 
-  -- Two notes under the same words and one first counter block are equal exactly where their texts are.
+  -- Two notes under the same words and one first counter block are equal exactly where their texts
+  -- are.
   pub notes-alike-under : (a b out out′ : List ℕ) → Accepted (cryptNoteCall words way counter a out) → Accepted (cryptNoteCall words way′ counter b out′)
       → (after out (cryptNoteCall words way counter a out) ≡ after out′ (cryptNoteCall words way′ counter b out′)) ↔ (a ≡ b)
   unfolding cryptNoteCall

@@ -1,4 +1,5 @@
--- An accepted call gives exactly as many bytes as the lent output has: no outcome asks for what no call could do.
+-- An accepted call gives exactly as many bytes as the given output has: no outcome asks for what no
+-- call could do.
 use Prim.Native.Nat.{ℕ, _*_}
 use mathlib.Core.List.{List}
 use mathlib.Core.Path.{_≡_, sym, ap, _∙_}
@@ -70,7 +71,7 @@ cryptNote-length words way counter note out a =
     let p = passed _ _ _ a in
     ap length (sym (p .sameBytes)) ∙ length-ctr (encryptUnder (wordsFromBytes words)) counter note ∙ sym (note-passed (wordsAndWay words way) counter note out (p .checks) .room)
 
--- A page has 32 bytes for each line that the count tells.
+-- A page has 32 bytes for each line that it counts.
 pub page-length : (book : List ℕ) (i : ℕ) (out : List ℕ) {n : ℕ} {bs : List ℕ} → pageCall book i out ≡ accepted n bs → (length bs ≡ length out) × (length bs ≡ 32 * n)
 unfolding pageCall
 page-length book i out a =

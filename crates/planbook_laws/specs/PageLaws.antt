@@ -1,4 +1,5 @@
--- Theorems of the planting page. Every line has 32 bytes; a field gives its number back; so a page says the whole sheet.
+-- Theorems of the planting page. Every line has 32 bytes; the number of a field can be read back;
+-- so a page shows the whole sheet.
 use Prim.Native.Nat.{ℕ, zero, suc, _+_, _-_, _*_, _/_, _%_, _^_, _≤_, _<_}
 use mathlib.Core.Bool.{Bool, true, false, _&&_, _||_}
 use mathlib.Core.List.{List, [], _∷_, _++_}
@@ -108,9 +109,10 @@ pub ascii-page : (i : ℕ) (book : List ℕ) → Below 128 (page i book)
 unfolding page
 ascii-page i book = below-append below-heading (below-lines _)
 
--- ---- a field gives its number back
+-- ---- the number of a field can be read back
 
--- The number that is read off a field, after a number that stands in front. A space counts as 0, since 32 - 48 is 0 in ℕ.
+-- The number that is read off a field, after a number before it. A space counts as 0, since 32 - 48
+-- is 0 in ℕ.
 unfoldable pub readOn : ℕ → List ℕ → ℕ
 readOn n [] = n
 readOn n (c ∷ cs) = readOn (n * 10 + (c - 48)) cs
@@ -143,14 +145,14 @@ field-back w n h = read-spaces (w - length (decimal w n)) (decimal w n) ∙ read
 pub fields-differ : (w : ℕ) {m n : ℕ} → m < 10 ^ w → n < 10 ^ w → numberField w m ≡ numberField w n → m ≡ n
 fields-differ w {m} {n} h k e = sym (field-back w m h) ∙ ap (readOn 0) e ∙ field-back w n k
 
--- ---- a line says its record
+-- ---- a line shows its record
 
--- Two rows of equal parts.
+-- Two lists of equal parts.
 equal-parts : (n : ℕ) (a a′ : List ℕ) {b b′ : List ℕ} → length a ≡ n → length a′ ≡ n → a ++ b ≡ a′ ++ b′ → (a ≡ a′) × (b ≡ b′)
 equal-parts n a a′ {b} {b′} l l′ e =
     (sym (take-at a b n l) ∙ ap (take n) e ∙ take-at a′ b′ n l′, sym (drop-at a b n l) ∙ ap (drop n) e ∙ drop-at a′ b′ n l′)
 
--- The field at the front of two lines, and what follows it.
+-- The first field of two lines, and what follows it.
 field-parts : (w m n : ℕ) {b b′ : List ℕ} → numberField w m ++ b ≡ numberField w n ++ b′ → (numberField w m ≡ numberField w n) × (b ≡ b′)
 field-parts w m n = equal-parts w (numberField w m) (numberField w n) (length-field w m) (length-field w n)
 
@@ -191,7 +193,7 @@ number-one : (at : ℕ) (bs : List ℕ) → at < length bs → number at 1 bs �
 unfolding number fromDigits
 number-one at bs h = rw (drop-cons bs at 0 h) (omega arith)
 
--- The bytes of a number that stands in a record.
+-- The bytes of a number in a record.
 part-bytes : (at k : ℕ) {r : List ℕ} → Bytes 16 r → at + k ≤ 16 → Bytes k (take k (drop at r))
 part-bytes at k b h = sized-take k (16 - at - k) (sized-drop at (16 - at) b (omega arith)) (omega arith)
 
@@ -219,7 +221,7 @@ module _ {r r′ : List ℕ} (b : Bytes 16 r) (b′ : Bytes 16 r′) where
       byte : (q : List ℕ) → length q ≡ 16 → number 8 1 q ≡ recordReplicate q
       byte q l = number-one 8 q (omega arith)
 
--- ---- a page says its sheet
+-- ---- a page shows its sheet
 
 plot-small : (row column : ℕ) → plotHolds row column ≡ true → (row < 10 ^ 3) × (column < 10 ^ 3)
 unfolding plotHolds
@@ -238,7 +240,7 @@ plot-small row column h = by-test (eqb row 0 && eqb column 0) refl h
         let c : column ≤ 999 = leb-true column 999 (last .1) in
         (omega arith, omega arith)
 
--- What the rule of records tells of one: its numbers fit, and its last three bytes are 0.
+-- What the rule of records says of one: its numbers fit, and its last three bytes are 0.
 record Kept (r : List ℕ) : Type 0 where
   fits : Fits r
   zeros : number 13 3 r ≡ 0
@@ -305,7 +307,7 @@ module _ {book book′ : List ℕ} {i i′ : ℕ} (s : SheetKept i book) (s′ :
 
 -- ---- the call
 
--- What its checks have told.
+-- What its checks have shown.
 pub record PagePassed (book : List ℕ) (i : ℕ) (out : List ℕ) : Type 0 where
   pub formed : Formed book
   pub entries : entriesHold 0 (contents book) ≡ true
@@ -342,7 +344,8 @@ accepted-sheet book i out below a =
     let k : PagePassed book i out = page-passed book i out (p .checks) in
     (p .sameBytes, sheet-kept i (k .formed) (k .there) below (k .entries) (k .records))
 
--- The page says the whole sheet: the pages of two accepted books are equal exactly where the bodies of the two sheets are. Their indices may differ too.
+-- The page shows the whole sheet: the pages of two accepted books are equal exactly where the
+-- bodies of the two sheets are. Their indices may differ too.
 pub pages-alike : (book book′ : List ℕ) (i i′ : ℕ) (out out′ : List ℕ) → Below 256 book → Below 256 book′ → Accepted (pageCall book i out) → Accepted (pageCall book′ i′ out′)
     → (after out (pageCall book i out) ≡ after out′ (pageCall book′ i′ out′)) ↔ (sheetBody i book ≡ sheetBody i′ book′)
 pages-alike book book′ i i′ out out′ below below′ a a′ =

@@ -1,8 +1,10 @@
--- The books of past seasons. Two rules came before today's: in the first, bytes 6 and 7 of an entry were both zero, and a replicate was 1 to 4; in the second,
--- byte 6 was the number of replicates, as it is today. In both a record could have any row and any column. They are written down here and not in the
--- format. The theorems say that a book with 0 in byte 6 of every entry, whose clear records all keep the rule of plots, is judged, sealed and opened
--- exactly as by the first; and that whatever either accepted is accepted still, with the same count and the same bytes, where its clear records
--- keep the rule of plots, and is refused under check 11 where one does not.
+-- The books of past seasons. Two rules came before today's: in the first, bytes 6 and 7 of an entry
+-- were both zero, and a replicate was 1 to 4; in the second, byte 6 was the number of replicates,
+-- as it is today. In both a record could have any row and any column. They are written down here
+-- and not in the format. The theorems say that a book with 0 in byte 6 of every entry, whose clear
+-- records all keep the rule of plots, is judged, sealed and opened exactly as by the first; and
+-- that whatever either accepted is accepted still, with the same count and the same bytes, where
+-- its clear records keep the rule of plots, and is refused under check 11 where one does not.
 use Prim.Native.Nat.{ℕ, _+_, _*_}
 use mathlib.Core.Bool.{Bool, true, false, _&&_, and-true, and-comm}
 use mathlib.Core.List.{List, [], _∷_, _++_}
@@ -23,7 +25,8 @@ use Rattle.planbook_laws.specs.Undoing.{Every, nothing, both, every-map}
 
 -- ---- the rules of past seasons
 
--- In what they differ: which entries hold, given the trial before them, and the greatest replicate of an entry's sheet.
+-- In what they differ: which entries hold, given the trial before them, and the greatest replicate
+-- of an entry's sheet.
 pub record PastRule : Type 0 where
   pub holds : ℕ → List ℕ → Bool
   pub most : List ℕ → ℕ
@@ -35,7 +38,8 @@ firstEntryHolds previous e = ltb previous (trial e) && leb 1 (count e) && leb (c
 abbrev pub firstRule : PastRule
 firstRule = record { holds = firstEntryHolds; most = λ (e : List ℕ). 4 }
 
--- The second, versions 1.0 and 1.1: as many replicates as byte 6 says, at most 8, and four where it is 0.
+-- The second, versions 1.0 and 1.1: as many replicates as byte 6 says, at most 8, and four where it
+-- is 0.
 unfoldable pub secondReplicates : List ℕ → ℕ
 secondReplicates e = choose (eqb (getD e 6 0) 0) 4 (getD e 6 0)
 
@@ -53,7 +57,8 @@ pastEntriesHold rule previous (e ∷ es) = rule .holds previous e && pastEntries
 unfoldable pub pastRecordHolds : PastRule → List ℕ → List ℕ → Bool
 pastRecordHolds rule e r = eqb (recordTrial r) (trial e) && leb 1 (recordEntry r) && leb 1 (recordReplicate r) && leb (recordReplicate r) (rule .most e) && eqb (number 13 3 r) 0
 
--- Whether P holds of every record of a sheet; and of every sheet, given its entry, once its body has gone through f.
+-- Whether P holds of every record of a sheet; and of every sheet, given its entry, once its body
+-- has gone through f.
 unfoldable pub everyRecord : (List ℕ → Bool) → List (List ℕ) → Bool
 everyRecord P [] = true
 everyRecord P (r ∷ rs) = P r && everyRecord P rs
@@ -74,7 +79,8 @@ pastFormChecks rule kind book out =
     ∷ check 10 (eqb (length book) (4 + 24 * sheetCount book + 16 * recordCount (contents book)))
     ∷ []
 
--- The checks of a call on a whole book: some list cs about key and way, or words and way, then 4 to 10, and 11.
+-- The checks of a call on a whole book: some list cs about key and way, or words and way, then 4 to
+-- 10, and 11.
 unfoldable pub pastBookChecks : PastRule → List Check → ℕ → (List ℕ → List ℕ → List ℕ) → List ℕ → List ℕ → List Check
 pastBookChecks rule cs kind f book out =
     cs ++ (pastFormChecks rule kind book out ++ (check 11 (everySheet (pastRecordHolds rule) f (contents book) (bodies book)) ∷ []))
@@ -161,7 +167,8 @@ past-checks : (rule : PastRule) (cs : List Check) (book out : List ℕ) → Ever
 unfolding formChecks recordsCheck bookChecks pastFormChecks
 past-checks rule cs book out every kind f = rw (past-entries rule 0 every, past-sheets rule f (bodies book) every)
 
--- ---- 0 in byte 6 of every entry, and the rule of plots kept: for any cipher, and any checks cs about words and way, so for the exported calls
+-- ---- 0 in byte 6 of every entry, and the rule of plots kept: for any cipher, and any checks cs
+-- about words and way, so for the exported calls
 
 module _ (cs : List Check) (book out : List ℕ) (every : Every Unnumbered (contents book)) where
   kept-checks : (kind : ℕ) (f : List ℕ → List ℕ → List ℕ) → plotsHold f book ≡ true → bookChecks cs kind f book out ≡ pastBookChecks firstRule cs kind f book out
@@ -226,7 +233,8 @@ module _ {rule : PastRule} (season : Season rule) (cs : List Check) {cs′ : Lis
       ap (λ (ks : List Check). judged ks o) (past-checks rule cs′ book out every kind f)
       ∙ last-check 11 (pastFormChecks rule kind book out) (everySheet (pastRecordHolds rule) f (contents book) (bodies book)) (plotsHold f book) o q b
 
--- The calls of past seasons took the key. Today's are lent the words that were expanded for it, and may go by another way.
+-- The calls of past seasons took the key. Today's are given the words that were expanded for it,
+-- and may go by another way.
 module _ {rule : PastRule} (season : Season rule) (key : List ℕ) (bytes : Below 256 key) {words : List ℕ} (lent : Expanded key words) (way : ℕ) {way′ : ℕ} (permitted : Way way′) (book out : List ℕ) {n : ℕ} {bs : List ℕ} where
   pub past-accepted-encrypts : pastEncryptBookBy rule (keyAndWay key way) (encrypt key) book out ≡ accepted n bs
       → encryptBookCall words way′ book out ≡ choose (plotsHold asItIs book) (accepted n bs) (refused 11)

@@ -1,5 +1,6 @@
--- The demands, of what a C program receives: a call's number r and the lent output at exit. Of both a call's contract states `Answers`, and nothing else of
--- the call is used here. Keys, words, blocks and books are rows of bytes: Below 256.
+-- The demands, of what a C program receives: a call's number r and the output at exit. Of both a
+-- call's contract states `Answers`, and nothing else of the call is used here. Keys, words, blocks
+-- and books are lists of bytes: Below 256.
 use Prim.Native.Nat.{ℕ, _*_, _/_, _^_, _≤_, _<_}
 use mathlib.Core.Bool.{Bool, true, false, _&&_}
 use mathlib.Core.List.{List, [], _∷_}
@@ -30,14 +31,15 @@ use Rattle.planbook_laws.specs.PageLaws.{page-passed, line-count, pages-
 abbrev pub lastCheck : ℕ
 lastCheck = 14
 
--- An outcome whose number can be read: a check is one of those that there are, and a count is below 2 ^ 32.
+-- An outcome whose number can be read: a check is one of those that exist, and a count is below 2 ^
+-- 32.
 pub data Readable : Outcome → Type 0 where
   refusal : {c : ℕ} → 1 ≤ c → c ≤ lastCheck → Readable (refused c)
   acceptance : {n : ℕ} {bs : List ℕ} → n < 2 ^ 32 → Readable (accepted n bs)
 
--- ---- what r and exit tell, whatever the call
+-- ---- what r and exit say, whatever the call
 
--- A refusal, under the check r / 2 ^ 32, with the count 0 and the output as lent.
+-- A refusal, under the check r / 2 ^ 32, with the count 0 and the output as it was.
 pub record Refusal (o : Outcome) (out : List ℕ) (r : ℕ) (exit : List ℕ) : Type 0 where
   pub outcome : o ≡ refused (r / 2 ^ 32)
   pub least : 1 ≤ r / 2 ^ 32
@@ -69,7 +71,8 @@ number-and-output {out = out} e a = answers-equal a (record { number = sym (ap a
 
 -- ---- every call's outcome can be read
 
--- Every check of a list has one of the numbers 1 to the last: a test that computes, whichever of them pass.
+-- Every check of a list has one of the numbers 1 to the last: a test that computes, whichever of
+-- them pass.
 unfoldable numbered : List Check → Bool
 numbered [] = true
 numbered (check c b ∷ cs) = leb 1 c && leb c lastCheck && numbered cs
@@ -126,7 +129,8 @@ pub readable-page : (book : List ℕ) (i : ℕ) (out : List ℕ) → Readable (p
 unfolding pageCall pageChecks formChecks recordsCheck sheetCheck outputCheck numbered
 readable-page book i out = readable (pageChecks book i out) _ _ refl (λ p. line-count (page-passed book i out p))
 
--- ---- demand 2: under the same words, where the first number is below 2 ^ 32, the other call gives the number and the bytes back
+-- ---- demand 2: under the same words, where the first number is below 2 ^ 32, the other call gives
+-- the number and the bytes back
 
 module _ (words : List ℕ) (bytes : Below 256 words) (way way′ : ℕ) (permitted : Way way′) (src out out′ : List ℕ) (below : Below 256 src) {r r′ : ℕ} {exit exit′ : List ℕ} (small : r < 2 ^ 32) where
   pub demand2-decrypts-under-received : Answers (encryptBookCall words way src out) out r exit → length out′ ≡ length src
@@ -145,7 +149,7 @@ module _ (words : List ℕ) (bytes : Below 256 words) (way way′ : ℕ) (permit
       → Answers (encryptBlockCall words way′ exit out′) out′ r′ exit′ → (r′ ≡ r) × (exit′ ≡ src)
   demand2-block-encrypts-under-received a e = number-and-output (demand2-block-encrypts-under words bytes way way′ permitted src out out′ below e (accepts (readable-decryptBlock words way src out) a small))
 
--- ---- demand 3: the two lent outputs at exit, where both numbers are below 2 ^ 32
+-- ---- demand 3: the two outputs at exit, where both numbers are below 2 ^ 32
 
 accepted-outcome : {o : Outcome} {n : ℕ} {bs : List ℕ} → o ≡ accepted n bs → Accepted o
 accepted-outcome e = subst Accepted (sym e) (accepting _ _)
@@ -159,7 +163,8 @@ demand3-under-received words bytes way way′ a b out out′ ra rb pa ha pb hb =
     (accepted-outcome (accepts (readable-encryptBook words way a out) pa ha))
     (accepted-outcome (accepts (readable-encryptBook words way′ b out′) pb hb)))
 
--- ---- notes: what the call has made of one comes back, and two under the same words and one first counter block are equal exactly where their texts are
+-- ---- notes: what the call has made of one comes back, and two under the same words and one first
+-- counter block are equal exactly where their texts are
 
 module _ (words : List ℕ) (way way′ : ℕ) (counter : List ℕ) {r r′ : ℕ} {x y : List ℕ} where
   pub note-comes-back-under-received : Way way′ → (note out out′ : List ℕ) → Answers (cryptNoteCall words way counter note out) out r x → r < 2 ^ 32 → length out′ ≡ length note

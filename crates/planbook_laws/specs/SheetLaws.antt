@@ -15,14 +15,16 @@ use Rattle.clefia_laws.specs.SizedLaws.{Bytes}
 use Rattle.planbook_spec.specs.Book.{pieces, trial, count, replicates, entryHolds, entriesHold, sheetHolds, sheetCount, contents, bodies, recordCount, sheetEntry, sheetBody, sheetsHold, asItIs}
 use Rattle.planbook_laws.specs.BookLaws.{Formed}
 
--- `sheetEntry` and `sheetBody` over any row of entries and any bodies end to end, for induction: what a book has, and what is left of it behind a sheet.
+-- `sheetEntry` and `sheetBody` over any entries and any bodies end to end, for induction: what a
+-- book has, and what is left of it after a sheet.
 abbrev entry : ℕ → List ℕ → List ℕ
 entry i xs = take 24 (drop (24 * i) xs)
 
 abbrev body : ℕ → List ℕ → List ℕ → List ℕ
 body i xs bs = take (16 * count (entry i xs)) (drop (16 * recordCount (pieces 24 i xs)) bs)
 
--- The entry after the first one is the first of the rest, and its body the first behind the first body.
+-- The entry after the first one is the first of the rest, and its body the first after the first
+-- body.
 entry-next : (i : ℕ) (xs : List ℕ) → entry (suc i) xs ≡ entry i (drop 24 xs)
 entry-next i xs = let e : 24 * suc i ≡ 24 + 24 * i = omega arith in rw (e, drop-drop (24 * i) 24 xs)
 

@@ -1,5 +1,6 @@
--- The calls under the words of a key. What planbook_expand_key has written for a key, by whichever way, is lent to a call, by whichever way: the call
--- comes to what the definitions give under that key.
+-- The calls under the words of a key. What planbook_expand_key has written for a key, by whichever
+-- way, is passed to a call, by whichever way: the call comes to what the definitions give under
+-- that key.
 use Prim.Native.Nat.{ℕ, _*_, _/_}
 use mathlib.Core.List.{List, [], _∷_, _++_}
 use mathlib.Core.Path.{_≡_, sym, ap, subst, _∙_}
@@ -38,7 +39,7 @@ same-words e e′ = sym (expanded-is e) ∙ expanded-is e′
 pub expanded-bytes : {key words : List ℕ} → Expanded key words → Below 256 words
 expanded-bytes {key} e = subst (Below 256) (expanded-is e) (below-digitsOf (lit< tt) 4 (expandKey key))
 
--- How many words they are, and that a call reads the very words of the definition out of the bytes.
+-- How many words they are, and that a call reads exactly the definition's words out of the bytes.
 module _ {key words : List ℕ} (bytes : Below 256 key) (e : Expanded key words) where
   row : Words (byKeyLength (length key) 40 48 56) (expandKey key)
   row = words-expandKey (expanded-key e) bytes

@@ -1,4 +1,5 @@
--- A coding and the one that takes it back: chains of blocks, the bodies of a book. One notion, Undone, serves all of them, in both directions.
+-- A function and the one that undoes it: chains of blocks, the bodies of a book. One notion,
+-- Undone, serves all of them, in both directions.
 use Prim.Native.Nat.{ℕ, zero, suc, _*_}
 use mathlib.Core.List.{List, [], _∷_, _++_}
 use mathlib.Core.Path.{_≡_, refl}
@@ -10,7 +11,7 @@ use Rattle.clefia_laws.specs.DigitLaws.{xors-cancel}
 use Rattle.clefia_laws.specs.SizedLaws.{Bytes, sized-append, sized-take, sized-drop, sized-xors, Undone}
 use Rattle.planbook_spec.specs.Book.{count, iv, recordCount, eachBody, sheetsHold, asItIs, cbcEncrypt, cbcDecrypt, encryptBody, decryptBody}
 
--- E and D encrypt and decrypt blocks of 16 bytes: each takes the other back.
+-- E and D encrypt and decrypt blocks of 16 bytes: each undoes the other.
 pub record BlockCipher (E D : List ℕ → List ℕ) : Type 0 where
   pub encrypted : Undone (Bytes 16) E D
   pub decrypted : Undone (Bytes 16) D E
@@ -86,7 +87,8 @@ pub every-map : {P Q : List ℕ → Type 0} → ((e : List ℕ) → P e → Q e)
 every-map f nothing = nothing
 every-map f (both {e = e} p r) = both (f e p) (every-map f r)
 
--- A coding f of the bodies that is followed by g comes to h, at the entry e; and f keeps the length of a body and its bytes below 256.
+-- f applied to a body, and then g, comes to h, at the entry e; and f keeps the length of a body and
+-- its bytes below 256.
 pub record Through (f g h : List ℕ → List ℕ → List ℕ) (e : List ℕ) : Type 0 where
   pub keeps : (x : List ℕ) → Bytes (16 * count e) x → Bytes (16 * count e) (f e x)
   pub meets : (x : List ℕ) → Bytes (16 * count e) x → g e (f e x) ≡ h e x
@@ -99,7 +101,7 @@ other-bodies : (e : List ℕ) (es : List (List ℕ)) {bs : List ℕ} → Bytes (
 unfolding recordCount
 other-bodies e es b = sized-drop (16 * count e) (16 * recordCount es) b (omega arith)
 
--- No coding at all.
+-- Bodies left as they are.
 pub each-asItIs : (es : List (List ℕ)) (bs : List ℕ) → Bytes (16 * recordCount es) bs → eachBody asItIs es bs ≡ bs
 unfolding eachBody recordCount
 each-asItIs [] bs b = empty bs b
@@ -114,7 +116,7 @@ module _ {f g h : List ℕ → List ℕ → List ℕ} where
   each-keeps (both {e = e} {es = es} t r) bs b =
       sized-append (16 * count e) (16 * recordCount es) (t .keeps _ (first-body e es b)) (each-keeps r _ (other-bodies e es b)) (omega arith)
 
-  -- The first coded body and the others, cut apart again.
+  -- The first body after f and the others, cut apart again.
   crypted-first : (e : List ℕ) (es : List (List ℕ)) (bs : List ℕ) → Through f g h e → Bytes (16 * recordCount (e ∷ es)) bs
       → take (16 * count e) (eachBody f (e ∷ es) bs) ≡ f e (take (16 * count e) bs)
   unfolding eachBody
@@ -132,7 +134,7 @@ module _ {f g h : List ℕ → List ℕ → List ℕ} where
   each-through (both {e = e} {es = es} t r) bs b =
       rw (crypted-first e es bs t b, crypted-others e es bs t b, t .meets _ (first-body e es b), each-through r _ (other-bodies e es b))
 
-  -- A rule of the records, looked at after g of the coded bodies, is the rule looked at after h.
+  -- A rule of the records, looked at after f and then g, is the rule looked at after h.
   pub sheets-through : {es : List (List ℕ)} → Every (Through f g h) es → (bs : List ℕ) → Bytes (16 * recordCount es) bs
       → sheetsHold g es (eachBody f es bs) ≡ sheetsHold h es bs
   unfolding sheetsHold

@@ -1,5 +1,6 @@
--- Laws for code that walks a book by offsets: numbers read at an offset, one entry, one body, one block or one record taken off the front of what is
--- left. Loops count down: n is what is left, at the offset of the next piece.
+-- Laws for code that walks a book by offsets: numbers read at an offset, one entry, one body, one
+-- block or one record taken off the start of what is left. Loops count down: n is what is left, at
+-- the offset of the next piece.
 use Prim.Native.Nat.{ℕ, zero, suc, _+_, _-_, _*_, _≤_, _<_}
 use mathlib.Core.Bool.{Bool, _&&_}
 use mathlib.Core.List.{List, [], _∷_, _++_, append-assoc}
@@ -23,7 +24,7 @@ take-drop-take (suc k) (suc i) zero l h = absurd (omega arith)
 take-drop-take (suc k) (suc i) (suc m) [] h = refl
 take-drop-take (suc k) (suc i) (suc m) (x ∷ l) h = take-drop-take (suc k) i m l (omega arith)
 
--- A number of a piece of m bytes that stands at an offset.
+-- A number of a piece of m bytes at an offset.
 pub number-piece : (i k m at : ℕ) (bs : List ℕ) → i + k ≤ m → number i k (take m (drop at bs)) ≡ number (at + i) k bs
 unfolding number
 number-piece i k m at bs h = rw (take-drop-take k i m (drop at bs) h, drop-drop i at bs)
