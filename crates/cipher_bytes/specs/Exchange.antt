@@ -1,4 +1,4 @@
--- What a block written and another read comes to.
+-- The result of writing one block and reading another.
 use Prim.Native.Nat.{ℕ}
 use mathlib.Core.Path.{_≡_}
 use mathlib.Core.List.{List}

@@ -1,4 +1,4 @@
--- Rows of a known length, and four elements that stand or are put at a place of a row.
+-- Lists of a known length, and four elements that are at a place of a list or are put there.
 use Prim.Native.Nat.{ℕ, zero, suc, _+_, _-_, _*_, _≤_, _<_}
 use mathlib.Core.Path.{_≡_, refl, sym, _∙_, ap}
 use mathlib.Core.List.{List, [], _∷_, _++_, append-assoc, append-nil}
@@ -10,12 +10,12 @@ use lib.ListN.{length, getD, set, take, drop, length-append, length-take, length
 use lib.Seq.{sets-eq, take-all, take-at, take-suc, take-suc-set, drop-cons, drop-drop, length-take-le}
 use Rattle.clefia_spec.specs.Words.{fromDigits, toDigits, digitsOf, numbersOf, bytesOf, wordsOf, fourAt}
 
--- The first n elements of a row, each written out.
+-- The first n elements of a list, each written out.
 unfoldable pub spelled : ℕ → List ℕ → List ℕ
 spelled zero s = []
 spelled (suc n) s = getD s 0 0 ∷ spelled n (drop 1 s)
 
--- A row is its elements. Rewritten so, what is defined on rows computes.
+-- A list is its elements. Rewritten so, what is defined on lists computes.
 pub spell : (n : ℕ) (s : List ℕ) → length s ≡ n → s ≡ spelled n s
 unfolding spelled
 spell zero [] h = refl
@@ -23,7 +23,7 @@ spell zero (x ∷ s) h = let z : ⊥ = omega arith in absurd z
 spell (suc n) [] h = let z : ⊥ = omega arith in absurd z
 spell (suc n) (x ∷ s) h = ap (λ (t : List ℕ). x ∷ t) (spell n s (omega arith))
 
--- Four elements that stand at a place.
+-- Four elements at a place.
 pub four-at : (s : List ℕ) (i : ℕ) → i + 4 ≤ length s → take 4 (drop i s) ≡ fourAt s i
 unfolding fourAt
 four-at s i h =
@@ -35,7 +35,7 @@ four-at s i h =
       drop-cons s (suc (suc (suc i))) 0 (omega arith),
     )
 
--- Four elements put at a place: p in front of the place, and all else as it was.
+-- Four elements p put at place i, and all else as it was.
 unfoldable pub putFour : List ℕ → ℕ → List ℕ → List ℕ
 putFour s i p = take i s ++ p ++ drop (i + 4) s
 
@@ -45,7 +45,7 @@ pub four-stores : (s : List ℕ) (i a b c d : ℕ) → i + 4 ≤ length s →
 unfolding putFour
 four-stores s i a b c d h = simp towards-suc (simp towards-suc at (sets-eq (a ∷ b ∷ c ∷ d ∷ []) s i h))
 
--- What has been put up to the end of four elements.
+-- The list up to the end of four elements that were put.
 pub take-putFour : (s : List ℕ) (i : ℕ) (p : List ℕ) → length p ≡ 4 → i + 4 ≤ length s → take (i + 4) (putFour s i p) ≡ take i s ++ p
 unfolding putFour
 take-putFour s i p e h = take-at (take i s ++ p) (drop (i + 4) s) (i + 4) (length-append (take i s) p ∙ omega (arith, length-take-le i s (omega arith)))
@@ -54,7 +54,8 @@ pub length-putFour : (s : List ℕ) (i : ℕ) (p : List ℕ) → length p ≡ 4 
 unfolding putFour
 length-putFour s i p e h = simp (length-append, length-take, length-drop) (omega arith)
 
--- A row is filled four elements at a time: what has been filled up to i, and what is to follow, make the whole.
+-- A list is filled four elements at a time: what has been filled up to i, and what is to follow,
+-- make the whole.
 pub fill-four : (s : List ℕ) (i : ℕ) (p rest whole : List ℕ) → length p ≡ 4 → i + 4 ≤ length s →
     take i s ++ (p ++ rest) ≡ whole → take (i + 4) (putFour s i p) ++ rest ≡ whole
 fill-four s i p rest whole e h w = rw (take-putFour s i p e h, append-assoc) w
@@ -67,7 +68,7 @@ pub fill-one : (i : ℕ) (s whole : List ℕ) → i < length s → i < length wh
 fill-one i s whole h k e =
     rw add-one (take-suc-set s i (getD whole i 0) h ∙ ap (λ (l : List ℕ). l ++ (getD whole i 0 ∷ [])) e ∙ sym (take-suc whole i 0 k))
 
--- The same for a part of any length, as it comes back from a call that filled it: what stands before its end.
+-- The same for a part of any length, as a call that filled it returns it: what is before its end.
 pub fill-part : (at n : ℕ) (out part rest : List ℕ) {whole : List ℕ} → length part ≡ n → at + n ≤ length out
     → take at out ++ (part ++ rest) ≡ whole → take (at + n) (putMid at (at + n - at) out part) ++ rest ≡ whole
 fill-part at n out part rest {whole} l h e =
@@ -80,12 +81,12 @@ pub length-part : (at n : ℕ) (out part : List ℕ) → length part ≡ n → a
 length-part at n out part l h =
     same-len-mid at (at + n - at) out part (l ∙ sym (mid-len at (at + n) out h ∙ omega arith))
 
--- The bytes of a row from place i on: those of the word there, and of the rest.
+-- The bytes of a list of words from place i on: those of the word there, and of the rest.
 pub bytes-step : (s : List ℕ) (i : ℕ) → i < length s → bytesOf (drop i s) ≡ toDigits 256 4 (getD s i 0) ++ bytesOf (drop (i + 1) s)
 unfolding digitsOf
 bytes-step s i h = rw (add-one, drop-cons s i 0)
 
--- The word at place i of a row of bytes.
+-- The word at place i of a list of bytes.
 unfoldable pub wordAt : List ℕ → ℕ → ℕ
 wordAt s i = fromDigits 256 (take 4 (drop i s))
 
@@ -94,7 +95,7 @@ pub four-words : (s : List ℕ) (i : ℕ) → wordsOf 4 (drop i s) ≡ wordAt s 
 unfolding wordAt numbersOf
 four-words s i = simp (drop-drop, add-assoc)
 
--- The word at place j of a row of words, by its bytes.
+-- The word at place j of a list of words, by its bytes.
 pub getD-words : (n : ℕ) (s : List ℕ) (j : ℕ) → j < n → getD (wordsOf n s) j 0 ≡ wordAt s (4 * j)
 unfolding wordAt numbersOf
 getD-words zero s j h = let z : ⊥ = omega arith in absurd z
@@ -103,7 +104,7 @@ getD-words (suc n) s (suc j) h =
     getD-words n (drop 4 s) j (omega arith)
     ∙ let e : 4 + 4 * j ≡ 4 * suc j = omega arith in rw (drop-drop, e)
 
--- Four words of a row of words, by their bytes.
+-- Four words of a list of words, by their bytes.
 pub fourAt-words : (n : ℕ) (s : List ℕ) (i : ℕ) → i + 4 ≤ n → fourAt (wordsOf n s) i ≡ wordsOf 4 (drop (4 * i) s)
 unfolding fourAt
 fourAt-words n s i h =

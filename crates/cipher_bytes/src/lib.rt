@@ -1,4 +1,4 @@
-// Words read from bytes and written as bytes, the first byte highest; rows of four words.
+// Words read from bytes and written as bytes, the first byte highest; lists of four words.
 ghost use mathlib.Core.Path.{_≡_};
 ghost use mathlib.Core.List.{[], _∷_};
 ghost use Prim.Native.Nat.{_+_, _*_, _≤_};
@@ -14,7 +14,7 @@ pub fn join(a: u8, b: u8, c: u8, d: u8) -> u32
     a as u32 * 16777216 + b as u32 * 65536 + c as u32 * 256 + d as u32
 }
 
-// The word that stands at `at`.
+// The word at `at`.
 pub fn word(src: &[u8], at: usize) -> u32
     requires { ⌜ at + 4 ≤ length (now src) ⌝ }
     ensures { λ r. ⌜ r ≡ fromDigits 256 (take 4 (drop at (now (src .entry)))) ⌝ }
@@ -22,7 +22,7 @@ pub fn word(src: &[u8], at: usize) -> u32
     join(src[at], src[at + 1], src[at + 2], src[at + 3])
 }
 
-// The four words that stand at `at`.
+// The four words at `at`.
 pub fn load(src: &[u8], at: usize) -> [u32; 4]
     requires { ⌜ at + 16 ≤ length (now src) ⌝ }
     ensures { λ r. ⌜ r ≡ wordsOf 4 (drop at (now (src .entry))) ⌝ }
@@ -63,9 +63,9 @@ pub fn xors4(a: [u32; 4], b: [u32; 4]) -> [u32; 4]
     [a[0] ^ b[0], a[1] ^ b[1], a[2] ^ b[2], a[3] ^ b[3]]
 }
 
-// A block written and another read by turns: the four words s written into the 16 bytes of dst, and the four that stand at `from` of src read.
-// Each word that is written is followed by one that is read: the compiler makes one store of a word's four bytes only where no other store stands right
-// behind them.
+// A block written and another read, alternately: the four words s written into the 16 bytes of dst,
+// and the four at `from` of src read. Each word that is written is followed by one that is read:
+// the compiler makes one store of a word's four bytes only where no other store follows directly.
 pub fn exchange(dst: &mut [u8], s: [u32; 4], src: &[u8], from: usize) -> [u32; 4]
     requires { ⌜ length (now dst) ≡ 16 ⌝ }
     requires { ⌜ from + 16 ≤ length (now src) ⌝ }
@@ -82,7 +82,7 @@ pub fn exchange(dst: &mut [u8], s: [u32; 4], src: &[u8], from: usize) -> [u32; 4
     [a, b, c, d]
 }
 
-// Every word of a row written into four times as many bytes.
+// Every word of a list written into four times as many bytes.
 pub fn store_all(dst: &mut [u8], src: &[u32])
     requires { ⌜ length (now dst) ≡ 4 * length (now src) ⌝ }
     ensures { λ r. ⌜ now (dst .exit) ≡ bytesOf (now (src .entry)) ⌝ }
@@ -94,7 +94,7 @@ pub fn store_all(dst: &mut [u8], src: &[u32])
     }
 }
 
-// As many words as the row has places, read from four times as many bytes.
+// As many words as dst has places, read from four times as many bytes.
 pub fn load_all(dst: &mut [u32], src: &[u8])
     requires { ⌜ length (now src) ≡ 4 * length (now dst) ⌝ }
     ensures { λ r. ⌜ now (dst .exit) ≡ wordsOf (length (now (dst .entry))) (now (src .entry)) ⌝ }
@@ -106,7 +106,7 @@ pub fn load_all(dst: &mut [u32], src: &[u8])
     }
 }
 
-// Four words put at `at` of a row.
+// Four words put at `at` of a list.
 pub fn put_four(dst: &mut [u32], at: usize, s: [u32; 4])
     requires { ⌜ at + 4 ≤ length (now dst) ⌝ }
     ensures { λ r. ⌜ now (dst .exit) ≡ putFour (now (dst .entry)) at s ⌝ }

@@ -1,5 +1,6 @@
-// One round of the generalised Feistel network on four branches: the Feistel step, and the branches rotated. A state is a row of words, passed and returned by
-// value. The tables that the round functions read, if any, are lent from above.
+// One round of the generalised Feistel network on four branches: the Feistel step, and the branches
+// rotated. A state is a list of words, passed and returned by value. The tables that the round
+// functions read, if any, are passed by the caller.
 ghost use mathlib.Core.Path.{_≡_};
 ghost use mathlib.Core.List.{List};
 ghost use Prim.Native.Nat.{ℕ, _+_};
@@ -20,7 +21,7 @@ pub fn rotate_right4(s: [u32; 4]) -> [u32; 4]
     [s[3], s[0], s[1], s[2]]
 }
 
-// The Feistel step of a round with the round keys a and b, in whatever row they stand.
+// The Feistel step of a round with the round keys a and b, from whatever list they come.
 pub fn feistel4(
     word_tables: &[[u32; 256]],
     byte_tables: &[[u8; 256]],

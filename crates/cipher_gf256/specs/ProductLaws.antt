@@ -25,6 +25,6 @@ unfolding addProduct
 addProduct-step zero r p q h = absurd (not-suc-le-zero h)
 addProduct-step (suc k) r p q h = let e : suc k - 1 ≡ k = omega arith in rw e
 
--- The turn behind which no set bit is left gives the whole.
+-- The turn after which no set bit is left gives the whole product.
 pub addProduct-last : (k r p q : ℕ) → 0 < k → q / 2 ≡ 0 → addProduct k r p q ≡ q % 2 * p ⊕ r
 addProduct-last k r p q h e = rw (addProduct-step k r p q h, e) (addProduct-none (k - 1) (q % 2 * p ⊕ r) (double8 p))

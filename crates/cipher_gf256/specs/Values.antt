@@ -1,4 +1,4 @@
--- A function's values in a row, which is what a table of it holds.
+-- A list of a function's values, which is what a table of it holds.
 use Prim.Native.Nat.{ℕ, zero, suc, _+_, _<_, suc-le-suc}
 use native.Mathlib.Nat.{add-zero, zero-add, add-suc, suc-add, le-of-suc-le-suc, not-suc-le-zero, zero-lt-suc}
 use mathlib.Core.Path.{_≡_, refl, ap, sym, _∙_}
@@ -16,7 +16,7 @@ valueFrom f i zero k d h = absurd (not-suc-le-zero h)
 valueFrom f i (suc n) zero d h = ap f (sym (add-zero i))
 valueFrom f i (suc n) (suc k) d h = valueFrom f (suc i) n k d (le-of-suc-le-suc h) ∙ ap f (suc-add i k ∙ sym (add-suc i k))
 
--- What stands at place k of the row.
+-- The value at place k of the list.
 pub value {ℓ} : {A : Type ℓ} (f : ℕ → A) (n k : ℕ) (d : A) → k < n → getD (values f 0 n) k d ≡ f k
 value f n k d h = valueFrom f 0 n k d h ∙ ap f (zero-add k)
 

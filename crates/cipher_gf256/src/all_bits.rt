@@ -4,7 +4,8 @@ ghost use Rattle.clefia_spec.specs.Field.{product};
 use super::double;
 use super::last_bit_times;
 
-// x times y, by all eight bits of y. A loop that ends early would end by secret bits here, and so would its time; and it was slower (DECISIONS).
+// x times y, by all eight bits of y. A loop that ends early would take a time that depends on
+// secret bits here; and it was slower (DECISIONS, "Way 3 works out inverses").
 pub fn product(x: u8, y: u8) -> u8
     ensures { λ r. ⌜ r ≡ product x y ⌝ }
 {

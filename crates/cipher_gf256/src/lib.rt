@@ -6,8 +6,9 @@ ghost use Prim.Native.Nat.{_*_, _%_, _<_};
 ghost use Rattle.clefia_spec.specs.Words.{_⊕_};
 ghost use Rattle.clefia_spec.specs.Field.{double8, product};
 
-// x times z. The polynomial's highest bit goes with the bit that the doubling pushes out, so 1d is what is left of 11d. Which of
-// the two parts stands first was measured (DECISIONS).
+// x times z. The polynomial's highest bit cancels the bit that the doubling shifts out, so 1d is
+// what is left of 11d. Which of the two parts comes first was measured (DECISIONS, "In a doubling
+// the shifted byte").
 pub fn double(x: u8) -> u8
     ensures { λ r. ⌜ r ≡ double8 x ⌝ }
 {
@@ -21,7 +22,8 @@ pub fn last_bit_times(y: u8, x: u8) -> u8
     y % 2 * x
 }
 
-// The sum after a turn: x is added where the last bit of y is set. It asks that a set bit be left in y, so a loop that makes a turn without need is not proved.
+// The sum after a turn: x is added where the last bit of y is set. It requires a set bit in y, so a
+// loop that makes a needless turn cannot be proved.
 fn add_last_bit(sum: u8, x: u8, y: u8) -> u8
     requires { ⌜ 0 < y ⌝ }
     ensures { λ r. ⌜ r ≡ y % 2 * x ⊕ sum ⌝ }
@@ -29,8 +31,10 @@ fn add_last_bit(sum: u8, x: u8, y: u8) -> u8
     last_bit_times(y, x) ^ sum
 }
 
-// x times y, by doublings of x through the bits of the multiplier y, lowest first, until no set bit is left. The turns are counted for the compiler's sake: it
-// takes a loop apart only where it knows how long it can get, and then a known multiplier costs its own turns and no test (DECISIONS).
+// x times y, by doublings of x through the bits of the multiplier y, lowest first, until no set bit
+// is left. The turns are counted for the compiler: it unrolls a loop only where it knows how long
+// it can get, and then a known multiplier costs its own turns and no test (DECISIONS, "Its turns
+// are counted").
 pub fn product(x: u8, y: u8) -> u8
     ensures { λ r. ⌜ r ≡ product x y ⌝ }
 {

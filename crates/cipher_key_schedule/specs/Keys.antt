@@ -1,4 +1,5 @@
--- The expanded key of a key in bytes, for each permitted length, by the words that the code reads from it.
+-- The expanded key of a key in bytes, for each permitted length, by the words that the code reads
+-- from it.
 use Prim.Native.Nat.{ℕ, _≤_}
 use mathlib.Core.Path.{_≡_, refl}
 use mathlib.Core.List.{List, [], _∷_}

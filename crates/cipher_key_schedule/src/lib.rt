@@ -28,7 +28,7 @@ fn expand_short(
     round_keys(2, 24, &con, 9, k, k, l, l, expanded);
 }
 
-// KL and KR of a longer key, its constants and its number of steps.
+// A longer key, as KL and KR, with its constants and its number of steps.
 fn expand_long(
     word_tables: &[[u32; 256]],
     byte_tables: &[[u8; 256]],
@@ -58,7 +58,7 @@ fn expand_long(
     );
 }
 
-// KR of a key of 24 bytes: its last two words, and its first two inverted.
+// KR of a key of 24 bytes: its last two words, and its first two with every bit inverted.
 fn extend_key(key: &[u8]) -> [u32; 4]
     requires { ⌜ length (now key) ≡ 24 ⌝ }
     ensures { λ r. ⌜ r ≡ extendKey (wordsOf 6 (now (key .entry))) ⌝ }

@@ -1,4 +1,5 @@
--- One round and the rest, forward and back, for any number of branches: what the loops over rounds cite.
+-- One round and the rest, forward and back, for any number of branches: what the loops over rounds
+-- cite.
 use Prim.Native.Nat.{ℕ, zero, suc, _+_, _-_, _≤_, _<_}
 use mathlib.Core.Path.{_≡_, refl}
 use mathlib.Core.List.{List}
@@ -20,7 +21,7 @@ unfolding rounds
 rounds-end p f g zero n w i at s t h e = e
 rounds-end p f g (suc left) n w i at s t h e = let z : ⊥ = omega arith in absurd z
 
--- One round more is taken back: the one whose keys stand before those of the rounds taken back.
+-- One more round is undone: the one whose keys are before those of the rounds undone so far.
 pub undo-step : (p : ℕ) (f g : ℕ → ℕ → ℕ) (n : ℕ) (w : List ℕ) (i j : ℕ) (s : List ℕ) → j ≡ i + p →
     feistel f g w i (rotateRight (undoRounds p f g n w j s)) ≡ undoRounds p f g (n + 1) w i s
 unfolding undoRounds

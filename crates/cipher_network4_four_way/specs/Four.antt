@@ -1,4 +1,5 @@
--- Four rows: what is done to each, and two rounds on one row. A law is about one row; each row cites it.
+-- Four states: what is done to each, and two rounds on one state. A law is about one state; each
+-- state cites it.
 use Prim.Native.Nat.{ℕ, _+_, _-_, _*_, _<_}
 use mathlib.Core.Path.{_≡_, refl}
 use mathlib.Core.List.{List}
@@ -15,18 +16,18 @@ each f s = record { a = f (s .a); b = f (s .b); c = f (s .c); d = f (s .d) }
 pub each-same : {f g : List ℕ → List ℕ} → ((s : List ℕ) → f s ≡ g s) → (t : FourStates) → each f t ≡ each g t
 each-same h t = rw (h (t .a), h (t .b), h (t .c), h (t .d))
 
--- The four keys that stand from place i of w on: those of two rounds.
+-- The four keys from place i of w on: those of two rounds.
 pub record Keys (w : List ℕ) (i k0 k1 k2 k3 : ℕ) : Type 0 where
   pub first : k0 ≡ getD w i 0
   pub second : k1 ≡ getD w (i + 1) 0
   pub third : k2 ≡ getD w (i + 2) 0
   pub fourth : k3 ≡ getD w (i + 3) 0
 
--- The last of them, as the second of two rounds asks for it.
+-- The last of them, as the second of two rounds requires it.
 pub last-key : {w : List ℕ} {i k0 k1 k2 k3 : ℕ} → Keys w i k0 k1 k2 k3 → k3 ≡ getD w (i + 2 + 1) 0
 last-key {i = i} k = let p : i + 2 + 1 ≡ i + 3 = omega arith in rw p (k .fourth)
 
--- Two rounds on a row, and the same two taken back.
+-- Two rounds on a state, and the same two undone.
 pub two-rounds : (w : List ℕ) (i : ℕ) (s : List ℕ) {t u : List ℕ} → t ≡ rotateLeft (feistel f0 f1 w i s) → u ≡ rotateLeft (feistel f0 f1 w (i + 2) t)
     → u ≡ rounds 2 f0 f1 2 w i s
 unfolding rounds

@@ -1,4 +1,5 @@
-// Four rows of branches that go through the same rounds at once, by word tables: while one waits for its tables, the others are worked on (DECISIONS).
+// Four states that go through the same rounds at once, by word tables: while one waits for its
+// tables, the others are worked on (DECISIONS, "Opening by word tables decrypts").
 ghost use mathlib.Core.Path.{_≡_};
 ghost use mathlib.Core.List.{List};
 ghost use Prim.Native.Nat.{ℕ, _+_, _*_, _≤_};
@@ -20,7 +21,7 @@ pub struct FourStates {
     pub d: [u32; 4],
 }
 
-// One round of one row, with the round keys a and b, in whatever row they stand.
+// One round of one state, with the round keys a and b, from whatever list they come.
 fn round_of_state(word_tables: &[[u32; 256]], a: u32, b: u32, s: [u32; 4]) -> [u32; 4]
     requires { ⌜ now «word_tables» ≡ wordTables ⌝ }
     ensures { λ r. ⌜ ((expanded : List ℕ) (i : ℕ) → a ≡ getD expanded i 0 → b ≡ getD expanded (i + 1) 0 → r ≡ rotateLeft (feistel f0 f1 expanded i s)) ⌝ }
@@ -30,7 +31,7 @@ fn round_of_state(word_tables: &[[u32; 256]], a: u32, b: u32, s: [u32; 4]) -> [u
     [y, s[2], z, s[0]]
 }
 
-// The same round taken back: the row is rotated right first.
+// The same round undone: the state is rotated right first.
 fn undo_round_of_state(word_tables: &[[u32; 256]], a: u32, b: u32, s: [u32; 4]) -> [u32; 4]
     requires { ⌜ now «word_tables» ≡ wordTables ⌝ }
     ensures { λ r. ⌜ ((expanded : List ℕ) (i : ℕ) → a ≡ getD expanded i 0 → b ≡ getD expanded (i + 1) 0 → r ≡ feistel f0 f1 expanded i (rotateRight s)) ⌝ }
@@ -40,7 +41,8 @@ fn undo_round_of_state(word_tables: &[[u32; 256]], a: u32, b: u32, s: [u32; 4]) 
     [s[3], y, s[1], z]
 }
 
-// Two rounds on each row, with four round keys that follow each other. All rows go through the first round before the second (DECISIONS).
+// Two rounds on each state, with four round keys that follow each other. All states go through the
+// first round before the second (DECISIONS, "All rows go through a round").
 fn two_rounds(
     word_tables: &[[u32; 256]],
     k0: u32,
@@ -68,7 +70,8 @@ fn two_rounds(
     }
 }
 
-// The same two rounds taken back. Which row goes first in the second one was measured (DECISIONS).
+// The same two rounds undone. Which state goes first in the second one was measured (DECISIONS,
+// "All rows go through a round").
 fn undo_two_rounds(
     word_tables: &[[u32; 256]],
     k0: u32,
@@ -161,7 +164,7 @@ fn rounds_by_two(
     t
 }
 
-// The same rounds taken back.
+// The same rounds undone.
 fn undo_by_two(
     word_tables: &[[u32; 256]],
     expanded: &[u32],
@@ -192,7 +195,8 @@ fn undo_by_two(
     t
 }
 
-// The network on each row. Other tables than the word tables leave nothing to wait for: there the rows go one by one.
+// The network on each state. By other tables than the word tables there is nothing to wait for:
+// there the states go one by one.
 pub fn network4_each(
     word_tables: &[[u32; 256]],
     byte_tables: &[[u8; 256]],

@@ -1,5 +1,6 @@
-// The generalised Feistel network of eight branches, which the longer keys pass. A state is a row of words, passed and returned by value.
-// The tables that the round functions read, if any, are lent from above.
+// The generalised Feistel network of eight branches, which the longer keys go through. A state is a
+// list of words, passed and returned by value. The tables that the round functions read, if any,
+// are passed by the caller.
 ghost use mathlib.Core.Path.{_≡_};
 ghost use mathlib.Core.List.{_++_};
 ghost use Prim.Native.Nat.{_+_, _*_, _≤_};
@@ -8,7 +9,7 @@ ghost use Rattle.clefia_spec.specs.FFunction.{f0, f1};
 ghost use Rattle.clefia_spec.specs.Network.{feistel, rotateLeft, rotateRight, network8};
 ghost use Rattle.cipher_ffunction.specs.Tables.{ValidTables};
 
-// Eight branches from two rows of four words, and each half of them.
+// Eight branches from two lists of four words, and each half of them.
 pub fn joined(a: [u32; 4], b: [u32; 4]) -> [u32; 8]
     ensures { λ r. ⌜ r ≡ a ++ b ⌝ }
 {

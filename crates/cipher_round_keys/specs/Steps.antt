@@ -1,4 +1,5 @@
--- The steps of the key schedule: one and the rest, as the loop that fills a row with round keys cites them.
+-- The steps of the key schedule: one and the rest, as the loop that fills a list with round keys
+-- cites them.
 use Prim.Native.Nat.{ℕ, suc, _+_, _-_, _*_, _%_, _≤_, _<_}
 use mathlib.Core.Bool.{Bool, true, false}
 use mathlib.Core.Path.{_≡_, refl, sym, _∙_}
@@ -12,7 +13,7 @@ use Rattle.clefia_laws.specs.DigitLaws.{length-xors}
 use Rattle.clefia_spec.specs.KeySchedule.{doubleSwap, stepKeys, roundKeys}
 use Rattle.cipher_bytes.specs.ListLaws.{putFour, fill-four}
 
--- The two periods: every step uses the first row, or two of every four do.
+-- The two periods: every step uses k and l, or two of every four do.
 pub data Period : ℕ → Type 0 where
   always : Period 2
   turns : Period 4
@@ -45,7 +46,8 @@ length-stepKeys i con k l = either (eqb (i % 2) 1)
     either true = length-xors k (xors con l) ∙ length-xors con l
     either false = length-xors con l
 
--- A turn of the loop: s is filled up to step i, with the steps that are left it makes the whole, and so it does after step i.
+-- A turn of the loop: s is filled up to step i, with the steps that are left it makes the whole,
+-- and so it does after step i.
 module _ (period base : ℕ) (con : List ℕ) (n i : ℕ) (k k′ l l′ s whole : List ℕ)
     (h : i < n)
     (e : length s ≡ 4 + 4 * n)

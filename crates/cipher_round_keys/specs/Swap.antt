@@ -20,7 +20,7 @@ split-digits b (suc j) k x =
     (ap (λ (n : ℕ). x / n) (ap (λ (n : ℕ). b ^ n) (add-comm j k) ∙ pow-add b k j) ∙ sym (div-div-eq-div-mul x (b ^ k) (b ^ j)))
     (split-digits b j k x)
 
--- The number of two rows of digits, one after the other.
+-- The number of two lists of digits, one after the other.
 pub append-digits : (b : ℕ) (xs ys : List ℕ) → fromDigits b (xs ++ ys) ≡ fromDigits b xs * b ^ length ys + fromDigits b ys
 unfolding fromDigits
 append-digits b [] ys = sym (ap (λ (n : ℕ). n + fromDigits b ys) (zero-mul (b ^ length ys)) ∙ zero-add (fromDigits b ys))
@@ -37,7 +37,7 @@ joined-bits j k x y =
     append-digits 2 (toDigits 2 j x) (toDigits 2 k y)
     ∙ ap₂ _+_ (ap₂ (λ (n m : ℕ). n * 2 ^ m) (from-to (lit< tt) j x) (length-toDigits 2 k y)) (from-to (lit< tt) k y)
 
--- Four rows of bits in DoubleSwap's order, as words.
+-- Four lists of bits in DoubleSwap's order, as words.
 abbrev ordered : List ℕ → List ℕ → List ℕ → List ℕ → List ℕ
 ordered a b c d = numbersOf 2 32 4 (doubleSwapBits (a ++ (b ++ (c ++ (d ++ [])))))
 

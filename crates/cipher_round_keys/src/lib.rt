@@ -45,7 +45,8 @@ fn step_keys(i: usize, con: &[u32], at: usize, k: [u32; 4], l: [u32; 4]) -> [u32
     m
 }
 
-// Step i: its round keys written behind the first four words and those of the steps before, and the l that follows.
+// Step i: its round keys written after the first four words and those of the steps before, and the
+// l that follows.
 fn step(
     i: usize,
     base: usize,
@@ -62,7 +63,8 @@ fn step(
     double_swap(l)
 }
 
-// Whether step i uses the first of two rows that take turns; with a period of 2 every step does. (A division by the period would cost more.)
+// Whether step i uses the first of two pairs that alternate; with a period of 2 every step does. (A
+// division by the period would cost more.)
 fn uses_first(i: usize, period: usize) -> bool
     requires { ⌜ Period period ⌝ }
     ensures { λ r. ⌜ r ≡ ltb (i % period) 2 ⌝ }
@@ -73,7 +75,8 @@ fn uses_first(i: usize, period: usize) -> bool
     i % 4 < 2
 }
 
-// The round keys of n steps, written behind the first four words. A step that uses the first row goes by k and l, any other by k2 and l2.
+// The round keys of n steps, written after the first four words. A step that uses the first pair
+// goes by k and l, any other by k2 and l2.
 pub fn round_keys(
     period: usize,
     base: usize,

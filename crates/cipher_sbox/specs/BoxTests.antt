@@ -1,4 +1,5 @@
--- The test of a table: its box in few enough steps to be computed at every byte within the checker's limit.
+-- The test of a table: its box in few enough steps to be computed at every byte within the
+-- checker's limit.
 use Prim.Native.Nat.{ℕ, zero, suc, _<_}
 use mathlib.Core.Path.{_≡_, refl}
 use Rattle.clefia_spec.specs.Field.{double, addProduct, product}
@@ -7,7 +8,7 @@ use Rattle.cipher_gf256.specs.Values.{values, values-ext}
 use Rattle.cipher_sbox.specs.Boxes.{box, byteTable}
 use Rattle.cipher_sbox.specs.Rules.{addColumns, fByColumns, gByColumns, power14, inverseBySubfield, s1ByColumns, s1-columns}
 
--- S0 by its rule, S1 by columns. Who unfolds it unfolds all that it is computed with.
+-- S0 by its rule, S1 by columns. Unfolding this unfolds all that it is computed with.
 unfoldable pub testedBox : ℕ → ℕ → ℕ
 unfolding ss0 ss1 ss2 ss3 s0 double addProduct product addColumns fByColumns gByColumns power14 inverseBySubfield s1ByColumns
 testedBox zero = s0

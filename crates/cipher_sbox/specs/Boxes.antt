@@ -23,7 +23,7 @@ pub length-byteTables : length byteTables ≡ 2
 unfolding byteTables
 length-byteTables = length-values byteTable 0 2
 
--- What stands in a table.
+-- What a table holds.
 pub byteTables-at : (i x : ℕ) → i < 2 → x < 256 → getD (getD byteTables i []) x 0 ≡ box i x
 unfolding byteTable byteTables
 byteTables-at i x hi hx = rw (value byteTable 2 i [] hi) (value (box i) 256 x 0 hx)

@@ -1,4 +1,4 @@
--- What the functions that work S0 and S1 out compute on the way.
+-- What the functions that work out S0 and S1 compute on the way.
 use Prim.Native.Nat.{ℕ, zero, suc, _+_, _*_, _/_, _%_, max, _≤_, _<_, zero-le, suc-le-suc}
 use native.Mathlib.Nat.{le-trans, le-max-left, le-max-right}
 use mathlib.Core.Path.{_≡_}
@@ -20,7 +20,8 @@ pub record FourBits (value result : ℕ) : Type 0 where
   pub right : result ≡ value
   pub small : result < 16
 
--- r, and the columns that the bits of x pick, lowest bit first, added to it: a map of bytes that keeps sums, where column i is the image of 2 ^ i.
+-- r plus the columns that the bits of x pick, lowest bit first: a map of bytes that keeps sums,
+-- where column i is the image of 2 ^ i.
 unfoldable pub addColumns : List ℕ → ℕ → ℕ → ℕ
 addColumns [] r x = r
 addColumns (c ∷ cs) r x = addColumns cs (x % 2 * c ⊕ r) (x / 2)
@@ -54,8 +55,8 @@ pub addColumns-end : (cs : List ℕ) (i r x : ℕ) → length cs ≤ i → addCo
 unfolding addColumns
 addColumns-end cs i r x h = rw (drop-of-length-le cs h)
 
--- f and g by columns, and the inverse as x^16 times the 14th power of x^17: that one lies in the field of sixteen elements, which their low four bits
--- tell apart. Each law is computed at every byte.
+-- f and g by columns, and the inverse as x^16 times the 14th power of x^17: x^17 is in the field of
+-- sixteen elements, which differ in their low four bits. Each law is computed at every byte.
 unfoldable pub fByColumns : ℕ → ℕ
 fByColumns x = addColumns (0x69 ∷ 0x10 ∷ 0x1c ∷ 0x84 ∷ 0xc4 ∷ 0x0a ∷ 0x4e ∷ 0x01 ∷ []) 0 x ⊕ 0x1e
 

@@ -1,11 +1,11 @@
-// S0 and S1: by the lent byte tables, and worked out from the rules.
+// S0 and S1: by the given byte tables, and worked out from the rules.
 pub mod rules;
 
 ghost use mathlib.Core.Path.{_≡_};
 ghost use Prim.Native.Nat.{_<_};
 ghost use Rattle.cipher_sbox.specs.Boxes.{box, byteTables};
 
-// Box i of a byte, read from the lent table.
+// Box i of a byte, read from the given table.
 pub fn by_table(byte_tables: &[[u8; 256]], i: usize, x: u8) -> u8
     requires { ⌜ i < 2 ⌝ }
     requires { ⌜ now «byte_tables» ≡ byteTables ⌝ }

@@ -17,14 +17,16 @@ const BOXES: [[u8; 16]; 4] = [
     [10, 2, 6, 13, 3, 4, 5, 14, 0, 7, 8, 9, 11, 15, 12, 1],
 ];
 
-// Maps of bytes that keep sums, each by its images of the eight bits, lowest first: the sums of bits in f and in g, and the 16th power.
+// Maps of bytes that keep sums, each by its images of the eight bits, lowest first: the sums of
+// bits in f and in g, and the 16th power.
 const F: [u8; 8] = [0x69, 0x10, 0x1c, 0x84, 0xc4, 0x0a, 0x4e, 0x01];
 
 const G: [u8; 8] = [0x40, 0x84, 0x01, 0xa0, 0x2a, 0x18, 0x61, 0x02];
 
 const POWER16: [u8; 8] = [0x01, 0x4c, 0x9d, 0x46, 0x5f, 0xfd, 0xd9, 0x81];
 
-// The 14th powers of the sixteen elements that are their own 16th power, each at the place that its low four bits tell.
+// The 14th powers of the sixteen elements that are their own 16th power, each at the place that its
+// low four bits give.
 const POWER14: [u8; 16] = [
     0x00,
     0x01,

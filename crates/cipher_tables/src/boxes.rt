@@ -1,4 +1,5 @@
-// The byte tables of S0 and S1, for way 1. Each table has a function that returns it whole: a constant that is read in place is copied at each read.
+// The byte tables of S0 and S1, for way 1. Each table has a function that returns it whole: a
+// constant that is read in place is copied at each read.
 ghost use mathlib.Core.Path.{_≡_};
 ghost use Rattle.cipher_sbox.specs.Boxes.{byteTable, byteTables};
 
@@ -532,7 +533,7 @@ fn table1() -> [u8; 256]
     S1
 }
 
-// Both tables, to be lent.
+// Both tables, to be passed on.
 pub fn byte_tables() -> [[u8; 256]; 2]
     ensures { λ r. ⌜ r ≡ byteTables ⌝ }
 {

@@ -1,5 +1,5 @@
-// The constants of the key schedule, one row for each key length in bytes. Each row is fetched whole: a constant that is read in place is copied
-// to the stack at every read.
+// The constants of the key schedule, one list for each key length in bytes. Each list is fetched
+// whole: a constant that is read in place is copied to the stack at every read.
 ghost use mathlib.Core.Path.{_≡_};
 ghost use Rattle.clefia_spec.specs.Constants.{constants};
 

@@ -1,4 +1,5 @@
--- The test of a word table, over matrix column and box: every entry is its column times the substituted byte. One declaration computes it for one table.
+-- The test of a word table, over matrix column and box: every entry is its column times the
+-- substituted byte. One declaration computes it for one table.
 use Prim.Native.Nat.{ℕ, _+_, _/_, _%_, _<_}
 use mathlib.Core.Path.{_≡_, ap}
 use Rattle.clefia_spec.specs.Words.{fromDigits}
@@ -8,7 +9,7 @@ use Rattle.cipher_gf256.specs.Values.{values, values-ext}
 use Rattle.cipher_sbox.specs.BoxTests.{testedBox, testedBox-is}
 use Rattle.cipher_ffunction.specs.Tables.{matrix, columnTimes, column, wordTable}
 
--- Entry x of table t. Who unfolds it unfolds all that it is computed with.
+-- Entry x of table t. Unfolding this unfolds all that it is computed with.
 unfoldable pub testedEntry : ℕ → ℕ → ℕ
 unfolding testedBox matrix columnTimes m0 m1 matrixEntry fromDigits double addProduct product
 testedEntry t x = columnTimes (matrix (t / 4)) (t % 4) (testedBox ((t / 4 + t % 4) % 2) x)

@@ -1,5 +1,5 @@
-// The eight word tables, for way 2: four columns of M0, then four of M1. Each table has a function that returns it whole: a constant that is read in
-// place is copied at each read.
+// The eight word tables, for way 2: four columns of M0, then four of M1. Each table has a function
+// that returns it whole: a constant that is read in place is copied at each read.
 ghost use mathlib.Core.Path.{_≡_};
 ghost use Rattle.cipher_ffunction.specs.Tables.{wordTable, wordTables};
 
@@ -2123,7 +2123,7 @@ fn column13() -> [u32; 256]
     COLUMN13
 }
 
-// All eight, to be lent.
+// All eight, to be passed on.
 pub fn all() -> [[u32; 256]; 8]
     ensures { λ r. ⌜ r ≡ wordTables ⌝ }
 {

@@ -1,4 +1,5 @@
--- `cipher_gf256::double` meets its contract: both ways of doubling a byte are computed at each byte.
+-- `cipher_gf256::double` meets its contract: both ways of doubling a byte are computed at each
+-- byte.
 use borrow.Author.Needs.{needs}
 use Rattle.cipher_gf256.specs.ProductLaws.{double-byte}
 use Rattle.cipher_gf256.proofs.double.Statement.{statement}

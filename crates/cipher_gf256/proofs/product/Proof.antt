@@ -1,5 +1,6 @@
--- `cipher_gf256::product` meets its contract. The loop's invariant: a set bit is left, and the sum, with the shifted factor times the bits that are left, is the
--- product. The measure is the number of bits left.
+-- `cipher_gf256::product` meets its contract. The loop's invariant: a set bit is left, and the sum,
+-- with the shifted factor times the bits that are left, is the product. The measure is the number
+-- of bits left.
 use Prim.Native.Nat.{_<_}
 use native.Mathlib.Omega.{arith}
 use mathlib.Core.Path.{_≡_, refl, sym, _∙_}
@@ -24,7 +25,7 @@ loop-holds : tie.Need-loop-holds Inv-loop μ-loop
 unfolding product
 loop-holds c = (omega arith, refl)
 
--- the turn in which the last set bit went
+-- the turn that removed the last set bit
 returns-2 : tie.Need-returns-2 Inv-loop μ-loop
 returns-2 c =
     let h = c .before .before .before .loop in

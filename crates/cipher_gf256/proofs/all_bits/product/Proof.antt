@@ -1,5 +1,6 @@
--- `cipher_gf256::all_bits::product` meets its contract. The loop's invariant: the sum, with the shifted factor times the bits that are left, is the product. The measure
--- is the number of bits left.
+-- `cipher_gf256::all_bits::product` meets its contract. The loop's invariant: the sum, with the
+-- shifted factor times the bits that are left, is the product. The measure is the number of bits
+-- left.
 use native.Mathlib.Omega.{arith}
 use mathlib.Core.Path.{_≡_, refl, sym, _∙_}
 use borrow.Author.Needs.{needs}

@@ -1,4 +1,5 @@
--- `cipher_sbox::rules::double_four_bits` meets its contract: both ways of doubling are computed at each number of four bits.
+-- `cipher_sbox::rules::double_four_bits` meets its contract: both ways of doubling are computed at
+-- each number of four bits.
 use Prim.Native.Nat.{_*_, _/_, _%_}
 use native.Mathlib.Omega.{arith}
 use lib.Bits.{xor-lt}

@@ -1,5 +1,5 @@
--- `cipher_sbox::rules::linear` meets its contract. The loop's invariant: the columns that are left, added to the sum, give what all give. The measure is the
--- number of columns left.
+-- `cipher_sbox::rules::linear` meets its contract. The loop's invariant: the columns that are left,
+-- added to the sum, give what all give. The measure is the number of columns left.
 use Prim.Native.Nat.{_-_, _≤_}
 use native.Mathlib.Omega.{arith}
 use mathlib.Core.Path.{_≡_, refl, sym, _∙_}
