@@ -44,7 +44,7 @@ counter-bytes {s} h i =
     subst (λ (t : List ℕ). counterBlock (bytesOf t) i ≡ bytesOf (counterState t i)) (sym (spell 4 s (h .size)))
     (bytes-counter _ _ _ _ i (below-getD (lit< tt) (below-drop 1 (below-drop 1 (below-drop 1 (h .below)))) 0))
 
--- ---- under words w, from the counter block of the row s
+-- ---- under an expanded key w, from the counter block of the state s
 
 module _ {w s : List ℕ} (words : Below (2 ^ 32) w) (state : Words 4 s) where
   pub words-encrypted : (i : ℕ) → Words 4 (encryptWords w (counterState s i))

@@ -1,4 +1,5 @@
-// The blocks of a note under expanded words: counter blocks as four words, and what is written with them, encrypted, added.
+// The blocks of a note under an expanded key: counter blocks as four words, and the blocks that are
+// written with them, encrypted, added.
 ghost use mathlib.Core.Path.{_≡_};
 ghost use Prim.Native.Nat.{_+_, _-_, _≤_};
 ghost use borrow.Rule.Slice.PartMut.{putMid};
@@ -8,7 +9,8 @@ ghost use Rattle.cipher_ffunction.specs.Tables.{CipherReady};
 ghost use Rattle.note_blocks.specs.Counter.{counterState, encryptedFour};
 use cipher_network4_four_way::FourStates;
 
-// Counter block i of a note as four words. The last one counts, and goes on at zero after its greatest.
+// Counter block i of a note as four words. The last one counts, and goes on at zero after its
+// greatest.
 pub fn counter_state(counter: [u32; 4], i: u32) -> [u32; 4]
     ensures { λ r. ⌜ r ≡ counterState counter i ⌝ }
 {
@@ -16,8 +18,8 @@ pub fn counter_state(counter: [u32; 4], i: u32) -> [u32; 4]
     [counter[0], counter[1], counter[2], number]
 }
 
-// The block that stands at `at` of src, with the four words s added, written into the 16 bytes of dst. Words are read and written by turns, as in
-// cipher_bytes::exchange.
+// The block at `at` of src, with the four words s added, written into the 16 bytes of dst. Words
+// are read and written alternately, as in cipher_bytes::exchange.
 fn add_words(dst: &mut [u8], s: [u32; 4], src: &[u8], at: usize)
     requires { ⌜ length (now dst) ≡ 16 ⌝ }
     requires { ⌜ at + 16 ≤ length (now src) ⌝ }
@@ -29,7 +31,7 @@ fn add_words(dst: &mut [u8], s: [u32; 4], src: &[u8], at: usize)
     cipher_bytes::put_word(dst, 12, s[3] ^ cipher_bytes::word(src, at + 12));
 }
 
-// The whole block of the note that stands at `at`, with an encrypted counter block s added.
+// The whole block of the note at `at`, with an encrypted counter block s added.
 pub fn add_block(s: [u32; 4], note: &[u8], out: &mut [u8], at: usize)
     requires { ⌜ (at + 16 ≤ length (now note)) × (at + 16 ≤ length (now out)) ⌝ }
     ensures { λ r. ⌜ now (out .exit) ≡ putMid at (at + 16 - at) (now (out .entry)) (bytesOf (xors s (wordsOf 4 (drop at (now (note .entry)))))) ⌝ }

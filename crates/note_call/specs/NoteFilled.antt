@@ -1,4 +1,4 @@
--- An output that is filled from the front, and the blocks of a note as they are written.
+-- An output that is filled from the start, and the blocks of a note as they are written.
 use Prim.Native.Nat.{ℕ, _+_, _-_, _*_, _^_, _≤_, _<_}
 use mathlib.Core.List.{List, _++_}
 use mathlib.Core.Path.{_≡_, refl, sym, ap, _∙_}
@@ -16,7 +16,7 @@ use Rattle.planbook_spec.specs.Note.{ctr}
 use Rattle.planbook_laws.specs.NoteLaws.{length-ctr}
 use Rattle.note_blocks.specs.Counter.{counterState, words-encrypted, cryptedNote-part, cryptedNote-block}
 
--- What is lent to write a note under words w, from the counter block of the row s.
+-- What is given to write a note under an expanded key w, from the counter block of the state s.
 pub record NoteReady (w s note out : List ℕ) : Type 0 where
   pub words : 4 ≤ length w
   pub state : Words 4 s
@@ -56,7 +56,7 @@ note-filled-size w s note f = f .size ∙ length-ctr (encryptUnder w) (bytesOf s
 pub note-filled-all : (w s note : List ℕ) {at : ℕ} {out : List ℕ} → NoteFilled at (cryptedNote w s note) out → length note ≤ at → out ≡ cryptedNote w s note
 note-filled-all w s note {at} f h = note-filled-end at f (omega (arith, length-ctr (encryptUnder w) (bytesOf s) note))
 
--- An output that is filled in part can be lent again.
+-- An output that is filled in part can be passed again.
 pub note-ready-again : (w s note : List ℕ) {at : ℕ} {out exit : List ℕ} → NoteReady w s note out → NoteFilled at (cryptedNote w s note) exit → NoteReady w s note exit
 note-ready-again w s note r f = record { words = r .words; state = r .state; short = r .short; room = note-filled-size w s note f }
 

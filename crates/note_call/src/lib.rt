@@ -1,5 +1,6 @@
-// A note under expanded words: counter mode (NIST SP 800-38A), and the call's checks 3, 4 and 12. Counter blocks do not wait for each other, so by word
-// tables four of them are encrypted at a time.
+// A note under an expanded key: counter mode (NIST SP 800-38A), and the call's checks 3, 4 and 12.
+// Counter blocks do not wait for each other, so by word tables four of them are encrypted at a
+// time.
 ghost use mathlib.Core.Path.{_≡_};
 ghost use mathlib.Core.List.{[]};
 ghost use Prim.Native.Nat.{_+_, _*_, _≤_, _<_};
@@ -40,8 +41,8 @@ fn write_four(
     note_blocks::add_block(d, note, out, fourth);
 }
 
-// By word tables, the whole blocks of the note by fours, as long as there are four; by other tables, which leave nothing to wait for, none. How many were
-// written.
+// By word tables, the whole blocks of the note by fours, as long as there are four; by other
+// tables, which leave nothing to wait for, none. Returns how many were written.
 fn write_fours(
     word_tables: &[[u32; 256]],
     byte_tables: &[[u8; 256]],
@@ -67,7 +68,7 @@ fn write_fours(
     i
 }
 
-// All whole blocks, those behind the fours one by one; how many they are.
+// All whole blocks, those after the fours one by one; returns how many they are.
 fn write_blocks(
     word_tables: &[[u32; 256]],
     byte_tables: &[[u8; 256]],
@@ -123,7 +124,8 @@ fn write_note(
     note_blocks::add_part(s, &note[at..end], &mut out[at..end]);
 }
 
-// Checks 3, 4 and 12, and then the note encrypted or decrypted: both are the same. The count is that of its bytes.
+// Checks 3, 4 and 12, and then the note encrypted or decrypted: both are the same. The count is
+// that of its bytes.
 pub fn crypt_note(
     word_tables: &[[u32; 256]],
     byte_tables: &[[u8; 256]],

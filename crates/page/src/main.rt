@@ -1,6 +1,7 @@
-// The planting page of the first sheet of a clear book. The book comes from standard input, which is read to its end or to the first byte that no book has
-// room for, and the page goes to standard output. Of a book that is refused, or that has no sheets, nothing is written, to neither stream; a page that could
-// not be written whole is told on standard error.
+// The planting page of the first sheet of a clear book. The book comes from standard input, which
+// is read to its end or to the first byte that no book has room for, and the page goes to standard
+// output. Of a book that is refused, or that has no sheets, nothing is written, to neither stream;
+// a page that could not be written whole is reported on standard error.
 use libc::STDERR_FILENO;
 use libc::STDIN_FILENO;
 use libc::STDOUT_FILENO;
@@ -14,8 +15,8 @@ fn join(a: u8, b: u8) -> usize
     a as usize * 256 + b as usize
 }
 
-// How long the page is: a heading, and a line for each record that the first entry of the contents counts. Where that entry is not there, the book is
-// refused, whatever is lent.
+// How long the page is: a heading, and a line for each record that the first entry of the contents
+// counts. Where that entry is not there, the book is refused, whatever is passed.
 fn page_length(book: &[u8]) -> usize {
     if book.len() < 28 {
         return 0;
@@ -42,7 +43,8 @@ fn print_within(book: &[u8], space: &mut [u8]) {
 }
 
 fn main() {
-    // One byte more than the longest book has, so that a longer input is seen, and refused for its length.
+    // One byte more than the longest book has, so that a longer input is seen, and refused for its
+    // length.
     let mut space = [0u8; 65533];
     let n = io::read_full(STDIN_FILENO, &mut space);
     // The longest page has a heading and 1,024 records.

@@ -29,7 +29,7 @@ unfolding spaces
 spaces-last zero = refl
 spaces-last (suc k) = ap (λ (l : List ℕ). 32 ∷ l) (spaces-last k)
 
--- The last digit, and what stands in front of it.
+-- The last digit, and what is before it.
 pub field-last : (k n : ℕ) → numberField (suc k) n ≡ frontField k (n / 10) ++ ((48 + n % 10) ∷ [])
 unfolding frontField rightAligned decimal
 field-last k n = by-tests (ltb n 10) (eqb (n / 10) 0) refl refl
@@ -52,7 +52,8 @@ unfolding frontField shownDigit
 front-last k zero = spaces-last k
 front-last k (suc m) = let some : eqb (suc m) 0 ≡ false = ne-eqb (suc m) 0 (λ e. omega (arith, e)) in rw some (field-last k (suc m))
 
--- ---- a field that is written from its end: characters from i on stand there, and `rest` is left of the number n
+-- ---- a field that is written from its end: characters from i on are there, and `rest` is left of
+-- the number n
 
 pub record DigitsWritten (w n i rest : ℕ) (out : List ℕ) : Type 0 where
   pub size : length out ≡ w
@@ -107,7 +108,8 @@ field-put at w n c out h =
     rw add-one (take-suc-set _ (at + w) c (omega arith))
     ∙ fill-part at w out (numberField w n) (c ∷ []) (length-field w n) (omega arith) refl
 
--- Five fields put one after the other make a line; o, p, q, r and s are the output after each of them.
+-- Five fields put one after the other make a line; o, p, q, r and s are the output after each of
+-- them.
 pub line-put : (a b c d e : ℕ) (o p q r s : List ℕ) → take 11 o ≡ numberField 10 a ++ (32 ∷ []) → take 22 p ≡ take 11 o ++ (numberField 10 b ++ (32 ∷ []))
     → take 24 q ≡ take 22 p ++ (numberField 1 c ++ (32 ∷ [])) → take 28 r ≡ take 24 q ++ (numberField 3 d ++ (32 ∷ []))
     → take 32 s ≡ take 28 r ++ (numberField 3 e ++ (10 ∷ [])) → length s ≡ 32

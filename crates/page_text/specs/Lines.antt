@@ -1,4 +1,5 @@
--- A page that is written line by line: `left` records are to come, the next at `at` of the body, and its line at `to` of the page.
+-- A page that is written line by line: `left` records are to come, the next at `at` of the body,
+-- and its line at `to` of the page.
 use Prim.Native.Nat.{ℕ, _+_, _-_, _*_, _≤_, _<_}
 use mathlib.Core.List.{List, _++_}
 use mathlib.Core.Path.{_≡_, refl, ap, _∙_}

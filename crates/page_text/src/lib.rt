@@ -1,4 +1,5 @@
-// The text of a planting page: a number in its field, a line, the heading, the lines of a sheet. Characters are bytes.
+// The text of a planting page: a number in its field, a line, the heading, the lines of a sheet.
+// Characters are bytes.
 ghost use mathlib.Core.Path.{_≡_};
 ghost use mathlib.Core.List.{[], _∷_, _++_};
 ghost use Prim.Native.Nat.{_+_, _*_, _≤_, _<_};

@@ -1,4 +1,5 @@
-// Clear books and counter blocks for the cases to start from. Places past a book's end are left out, so that a book can be made too short.
+// Clear books and counter blocks for the cases to start from. Places past a book's end are left
+// out, so that a book can be made too short.
 
 pub fn put(book: &mut [u8], at: usize, value: u8) {
     if at < book.len() {
@@ -6,14 +7,15 @@ pub fn put(book: &mut [u8], at: usize, value: u8) {
     }
 }
 
-// Changes the bits of a byte that change has.
+// Inverts the bits of a byte that are set in `change`.
 pub fn flip(book: &mut [u8], at: usize, change: u8) {
     if at < book.len() {
         book[at] = book[at] ^ change;
     }
 }
 
-// A word of a sheet's entry. The start block is such that the sheet's first record, added to it, is the plaintext of the cipher's test vectors.
+// A word of a sheet's entry. The iv is such that the sheet's first record, added to it, is the
+// plaintext of the cipher's test vectors.
 fn entry_word(trial: usize, count: usize, place: usize) -> usize {
     match place {
         0 => trial,
@@ -25,8 +27,8 @@ fn entry_word(trial: usize, count: usize, place: usize) -> usize {
     }
 }
 
-// A word of the record of a number that counts from 0: replicates 1 to 4 in turn, row and column the number modulo 1,000, so that every record
-// keeps the rule of plots. The first is in reserve.
+// A word of the record of a number, counted from 0: replicates 1 to 4 in turn, row and column the
+// number modulo 1,000, so that every record keeps the rule of plots. The first is in reserve.
 fn record_word(trial: usize, number: usize, place: usize) -> usize {
     let n = number % 65536;
     let m = n % 1000;
@@ -38,7 +40,7 @@ fn record_word(trial: usize, number: usize, place: usize) -> usize {
     }
 }
 
-// The trial of a sheet that counts from 0.
+// The trial of a sheet, counted from 0.
 fn trial_of(first: usize, sheet: usize) -> usize {
     first % 4294967296 + sheet % 65536
 }
@@ -83,7 +85,8 @@ fn byte_of(word: usize, place: usize) -> u8 {
     }
 }
 
-// A book whose trials count up from first. Each sheet has as many records as each says, and the last one as many as last says, which is no more.
+// A book whose trials count up from `first`. Each sheet has as many records as `each` says, and the
+// last one as many as `last` says, which is no more.
 pub fn write_book(book: &mut [u8], first: usize, sheets: usize, each: usize, last: usize) {
     let mut i = 0;
     while i < book.len() {
@@ -92,7 +95,8 @@ pub fn write_book(book: &mut [u8], first: usize, sheets: usize, each: usize, las
     }
 }
 
-// A byte of a counter block: twelve that count up from first, and the number in four. Past them it is 0.
+// A byte of a counter block: twelve that count up from `first`, and the number in four. Past them
+// it is 0.
 fn counter_byte(first: usize, number: usize, place: usize) -> u8 {
     if place < 12 {
         return ((first % 256 + place) % 256) as u8;

@@ -1,4 +1,5 @@
-// What the test programs write: text, numbers, the answer of an exported call, words of bytes. All of it goes to standard output.
+// What the test programs write: text, numbers, the answer of an exported call, words of bytes. All
+// of it goes to standard output.
 use libc::STDOUT_FILENO;
 ghost use Prim.Native.Nat.{_+_, _≤_};
 ghost use lib.ListN.{length};
@@ -30,7 +31,7 @@ fn say_word(bytes: &[u8], at: usize)
     io::print_hex(STDOUT_FILENO, w, 8);
 }
 
-// What stands after the word that ends at a place: a line's end after every fourth and after the last.
+// What follows the word that ends at a place: a line's end after every fourth and after the last.
 fn say_gap(at: usize, left: usize) {
     if at % 16 == 0 {
         say(b"\n");

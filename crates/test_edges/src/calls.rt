@@ -1,4 +1,5 @@
-// The exported calls, each reported in one line: the call, the case, the way, the check, the count, and whether the lent output was written.
+// The exported calls, each reported in one line: the call, the case, the way, the check, the count,
+// and whether the output was written.
 use planbook::planbook_constants;
 use planbook::planbook_crypt_note;
 use planbook::planbook_decrypt_block;
@@ -79,7 +80,8 @@ fn is_call(number: usize) -> bool {
     number <= 7
 }
 
-// Command 27, which expands the key into as many bytes of words as the state says. No line says what came of it: the calls that are lent the words show it.
+// Command 27, which expands the key into as many bytes of words as the state says. No line says
+// what came of it: the calls that are given the words show it.
 fn prepare(command: Command, state: State, key: &[u8], words: &mut [u8]) {
     if command.number == 27 {
         let k = within(state.key, key);
@@ -88,7 +90,7 @@ fn prepare(command: Command, state: State, key: &[u8], words: &mut [u8]) {
     }
 }
 
-// The commands that make what is lent beside the input: the words and the counter block.
+// The commands that make what is passed beside the input: the words and the counter block.
 pub fn make_ready(
     command: Command,
     state: State,
@@ -101,7 +103,8 @@ pub fn make_ready(
     commands::make_counter(command, counter);
 }
 
-// A call with as many bytes of the key, the words, the counter block, the book and the output as the state says.
+// A call with as many bytes of the key, the words, the counter block, the book and the output as
+// the state says.
 pub fn run_call(
     command: Command,
     script: &[u8],

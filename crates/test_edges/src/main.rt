@@ -1,8 +1,9 @@
-// The edges of the exported calls by running: what each check refuses and what it lets through, books in which two checks fail at once, and
-// books that pass. The cases stand in the file stdin, a script of commands, which says what each command does.
+// The edges of the exported calls by running: what each check refuses and what it lets through,
+// books in which two checks fail at once, and books that pass. The cases are in the file stdin, a
+// script of commands, which says what each command does.
 //
-// The file stdout comes from the rules in docs/FORMAT.md and never from this program: a script of its own judged each case by them, and the
-// few encrypted bytes are those of another CLEFIA.
+// The file stdout comes from the rules in docs/FORMAT.md and never from this program: a script of
+// its own judged each case by them, and the few encrypted bytes are those of another CLEFIA.
 mod calls;
 
 use calls::make_ready;
@@ -63,7 +64,8 @@ fn run(
 fn main() {
     let mut space = [0u8; 131072];
     let n = read_script(&mut space);
-    // The 32-byte key of the cipher's test vectors, whose shorter keys are its first bytes, and one byte more.
+    // The 32-byte key of the cipher's test vectors, whose shorter keys are its first bytes, and one
+    // byte more.
     run(
         &space[..n],
         b"\xff\xee\xdd\xcc\xbb\xaa\x99\x88\x77\x66\x55\x44\x33\x22\x11\x00\xf0\xe0\xd0\xc0\xb0\xa0\x90\x80\x70\x60\x50\x40\x30\x20\x10\x00\x00",

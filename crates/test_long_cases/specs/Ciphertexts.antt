@@ -1,5 +1,7 @@
--- The ciphertexts of the CLEFIA specification (section 2.5), through the calls: the number that C receives, and then the bytes. Under the words
--- of each of the three keys the block 00 01 .. 0f is encrypted, and under those of the first one decrypted again. They hold every definition from a key's bytes to a block's.
+-- The ciphertexts of the CLEFIA specification (section 2.5), through the calls: the number that C
+-- receives, and then the bytes. Under the words of each of the three keys the block 00 01 .. 0f is
+-- encrypted, and under those of the first one decrypted again. They test every definition from a
+-- key's bytes to a block's.
 use Prim.Native.Nat.{ℕ}
 use mathlib.Core.List.{List, [], _∷_}
 use mathlib.Core.Path.{refl}
@@ -17,7 +19,7 @@ use Rattle.clefia_spec.specs.Examples.{key32, clearBlock}
 use Rattle.planbook_spec.specs.Outcome.{Outcome, answer, after, judged}
 use Rattle.planbook_spec.specs.Checks.{wayCheck, blockCheck, outputCheck, wordsCheck, wordsFromBytes, blockChecks, encryptBlockCall, decryptBlockCall}
 
--- What a call that is lent 16 zero bytes hands back.
+-- What a call that is given 16 zero bytes returns.
 abbrev handed : Outcome → List ℕ
 handed o = answer o ∷ after (replicate 16 0) o
 

@@ -1,4 +1,5 @@
--- The inverse in GF(2^8), which is defined as x^254, is one: x times it is 1 for every byte but 0. One test, computed for all 256.
+-- The inverse in GF(2^8), defined as x^254, is an inverse: x times it is 1 for every byte but 0.
+-- One test, computed for all 256.
 use Prim.Native.Nat.{ℕ, _<_}
 use mathlib.Core.Bool.{Bool}
 use mathlib.Core.Path.{_≡_, ap, _∙_}

@@ -1,1 +1,2 @@
-// What is computed of the specification and takes seconds; by itself, so that no wrong definition waits for it. The facts are in specs/.
+// Computed facts of the specification that take seconds; by themselves, so that no wrong definition
+// waits for them. The facts are in specs/.

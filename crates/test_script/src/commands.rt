@@ -1,4 +1,5 @@
-// The commands of a script but the exported calls. Each function does nothing at the numbers of other functions.
+// The commands of a script but the exported calls. Each function does nothing at the numbers of
+// other functions.
 use crate::outputs::within;
 use crate::script::Command;
 use crate::script::say_part;
@@ -43,7 +44,7 @@ fn say_unknown(script: &[u8], from: usize, end: usize) {
     say(b"\n");
 }
 
-// The empty name stands before a remark or a line's end, and before nothing else.
+// The empty name is before a remark or a line's end, and before nothing else.
 fn pass(script: &[u8], at: usize, end: usize) {
     if at < script.len() {
         if script[at] != b'#' {

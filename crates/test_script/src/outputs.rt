@@ -1,4 +1,5 @@
-// Outputs to lend: every byte holds one value before a call, so that a refused call that wrote would show.
+// Outputs to pass: every byte holds one value before a call, so that a refused call that wrote
+// would show.
 use crate::script::Command;
 use crate::script::say_part;
 use crate::script::say_text;
@@ -8,7 +9,7 @@ use test_console::say_answer;
 use test_console::say_number;
 ghost use Rattle.io.specs.Counts.{Counts};
 
-// What a lent output holds before each call.
+// What an output holds before each call.
 const PATTERN: u8 = 165;
 
 pub fn fill(output: &mut [u8]) {

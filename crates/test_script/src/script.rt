@@ -1,5 +1,6 @@
-// A script of commands. A command ends at a semicolon or at its line's end. It is a name of letters and spaces, and then numbers or, after a
-// colon, text. A line that begins with # says nothing to the program.
+// A script of commands. A command ends at a semicolon or at its line's end. It is a name of letters
+// and spaces, and then numbers or, after a colon, text. A line that begins with # means nothing to
+// the program.
 use crate::outputs::within;
 use libc::STDIN_FILENO;
 ghost use Prim.Native.Nat.{_≤_};
@@ -7,7 +8,8 @@ ghost use lib.ListN.{length};
 ghost use mathlib.Core.Path.{_≡_};
 ghost use Rattle.io.specs.Counts.{Counts};
 
-// Where a part of a script ends: a name at what is no letter and no space, a command at a semicolon or at its line's end.
+// Where a part of a script ends: a name at what is no letter and no space, a command at a semicolon
+// or at its line's end.
 const NAME: u8 = 0;
 
 const WHOLE: u8 = 1;
@@ -51,7 +53,8 @@ fn after(script: &[u8], end: usize) -> usize {
     end
 }
 
-// A number with one digit more, or as it is at a space. One of more than 64 bits is the largest of 64 bits, and so is one with another byte.
+// A number with one digit more, or as it is at a space. One of more than 64 bits is the largest of
+// 64 bits, and so is one with another byte.
 fn appended(number: usize, byte: u8) -> usize {
     if byte == b' ' {
         return number;
@@ -81,7 +84,7 @@ fn place_after(k: usize, byte: u8) -> usize
     k
 }
 
-// The numbers of a text that has a space between them, at most five.
+// The numbers of a text, with a space between them, at most five.
 fn numbers(text: &[u8]) -> [usize; 5]
     ensures { λ r. ⌜ 5 ≡ length r ⌝ }
 {
@@ -96,7 +99,8 @@ fn numbers(text: &[u8]) -> [usize; 5]
     found
 }
 
-// The place of a name in a list of names with a comma after each, or the number of names where it is not there.
+// The place of a name in a list of names with a comma after each, or the number of names where it
+// is not there.
 fn find_name(name: &[u8], names: &[u8]) -> usize {
     let mut place: usize = 0;
     let mut i = 0;
@@ -114,7 +118,8 @@ fn find_name(name: &[u8], names: &[u8]) -> usize {
     place
 }
 
-// The first is the empty name of an empty line and of a remark. A name that a number follows ends with a space.
+// The first is the empty name of an empty line and of a remark. A name that a number follows ends
+// with a space.
 fn number_of(name: &[u8]) -> usize {
     find_name(
         name,
@@ -122,7 +127,8 @@ fn number_of(name: &[u8]) -> usize {
     )
 }
 
-// A command: the place of its name in the list of names, its numbers, and where it begins, its name ends, it ends and the next one begins.
+// A command: the place of its name in the list of names, its numbers, and where it begins, its name
+// ends, it ends and the next one begins.
 pub struct Command {
     pub number: usize,
     pub first: usize,

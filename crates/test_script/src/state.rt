@@ -11,7 +11,7 @@ pub struct State {
     pub length: usize,
     pub counter: usize,
     pub sheet: usize,
-    // Where the text of the last 'case' stands in the script.
+    // Where the text of the last 'case' is in the script.
     pub case: usize,
     pub case_end: usize,
     // What follows the last 'mark', which is run again by the next way.

@@ -1,9 +1,11 @@
-// Runs the vectors of the CLEFIA specification 1.0 (2010) through the exported calls: the constants of each key length (its tables 2.8 to 2.12),
-// and by each way the expanded key (2.5.1), the ciphertext and the decrypted block (2.5).
+// Runs the vectors of the CLEFIA specification 1.0 (2010) through the exported calls: the constants
+// of each key length (its tables 2.8 to 2.12), and by each way the expanded key (2.5.1), the
+// ciphertext and the decrypted block (2.5).
 //
-// The file stdout is typed from that paper. Three of the words it prints here break its own rules and stand corrected: constant 74 of
-// the 24-byte key, printed 9dcfabab3, is 9dcfaba3; constant 56 of the 32-byte key, printed fb9678f, is fbd9678f; round key 15 of the
-// 24-byte key, printed 92cf98e, is 92cfc98e.
+// The file stdout is typed from that paper. Three of the words it prints here break its own rules
+// and are corrected: constant 74 of the 24-byte key, printed 9dcfabab3, is 9dcfaba3; constant 56 of
+// the 32-byte key, printed fb9678f, is fbd9678f; round key 15 of the 24-byte key, printed 92cf98e,
+// is 92cfc98e.
 use planbook::planbook_constants;
 use planbook::planbook_decrypt_block;
 use planbook::planbook_encrypt_block;
@@ -42,7 +44,8 @@ fn constants(key_length: u64, output: &mut [u8]) {
     report(b"constants", answer, output);
 }
 
-// A key expanded, and a block under its words, by one way. The output is lent zeroed each time, so that no way can pass by what another wrote.
+// A key expanded, and a block under its words, by one way. The output is passed zeroed each time,
+// so that no way can pass by what another wrote.
 fn by_way(key: &[u8], way: u64, output: &mut [u8]) {
     say(b"way ");
     say_number(way);

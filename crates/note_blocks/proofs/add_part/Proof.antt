@@ -1,4 +1,4 @@
--- `note_blocks::add_part` meets its contract: what stands before `i` has been written.
+-- `note_blocks::add_part` meets its contract: what is before `i` has been written.
 use Prim.Native.Nat.{ℕ, _-_, _≤_, _<_}
 use mathlib.Core.List.{List}
 use mathlib.Core.Path.{_≡_, sym, _∙_}

@@ -1,4 +1,4 @@
--- `note_call::crypt_note` meets its contract: checks 3, 4 and 12 peeled off, and then the note.
+-- `note_call::crypt_note` meets its contract: checks 3, 4 and 12 one by one, and then the note.
 use mathlib.Core.Path.{_≡_, _∙_}
 use borrow.Author.Tests.{eq-eqb, ne-eqb, le-leb, lt-leb}
 use Rattle.clefia_spec.specs.Words.{bytesOf, Below}

@@ -1,4 +1,4 @@
--- `note_call::write_blocks` meets its contract: block i is the next, and stands at `at`.
+-- `note_call::write_blocks` meets its contract: block i is the next, and is at `at`.
 use Prim.Native.Nat.{_+_, _-_, _*_, _^_, _≤_}
 use mathlib.Core.Path.{_≡_, refl, sym, _∙_}
 use native.Mathlib.Omega.{arith}

@@ -1,4 +1,4 @@
--- `page_text::write_heading` meets its contract: what stands before i has been copied.
+-- `page_text::write_heading` meets its contract: what is before i has been copied.
 use Prim.Native.Nat.{_-_, _≤_}
 use mathlib.Core.Path.{_≡_, refl}
 use native.Mathlib.Omega.{arith}

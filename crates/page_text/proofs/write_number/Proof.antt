@@ -1,4 +1,4 @@
--- `page_text::write_number` meets its contract: what stands from i on is the end of the field.
+-- `page_text::write_number` meets its contract: from i on, the output is the end of the field.
 use mathlib.Core.Path.{_≡_}
 use native.Mathlib.Omega.{arith}
 use borrow.Author.Needs.{needs}

@@ -1,4 +1,5 @@
--- `page_text::write_page` meets its contract: `left` records are to come, the next at `at`, and its line at `to`.
+-- `page_text::write_page` meets its contract: `left` records are to come, the next at `at`, and its
+-- line at `to`.
 use Prim.Native.Nat.{_+_, _≤_}
 use mathlib.Core.Path.{refl, sym, _∙_}
 use native.Mathlib.Omega.{arith}

@@ -1,4 +1,5 @@
--- `test_books::exchange` ends and stays within the books: what is left falls with each byte, and stores keep both lengths.
+-- `test_books::exchange` ends and stays within the books: what is left falls with each byte, and
+-- stores keep both lengths.
 use Prim.Native.Nat.{_-_}
 use mathlib.Core.Path.{_≡_}
 use native.Mathlib.Omega.{arith}

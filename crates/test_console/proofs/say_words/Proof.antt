@@ -1,4 +1,5 @@
--- `test_console::say_words` ends and reads only what is there: `at` is at most the length, and what is left of it falls with each word.
+-- `test_console::say_words` ends and reads only what is there: `at` is at most the length, and what
+-- is left of it falls with each word.
 use Prim.Native.Nat.{_≤_, _-_}
 use native.Mathlib.Omega.{arith}
 use lib.ListN.{length}

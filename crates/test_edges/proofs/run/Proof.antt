@@ -1,4 +1,5 @@
--- `test_edges::run` ends, since the number of commands left falls, and calls keep the lengths of what they are lent.
+-- `test_edges::run` ends, since the number of commands left falls, and calls keep the lengths of
+-- what they are given.
 use mathlib.Core.Path.{_≡_}
 use lib.ListN.{length}
 use borrow.Author.Needs.{needs}

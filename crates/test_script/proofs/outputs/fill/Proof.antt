@@ -1,4 +1,5 @@
--- `test_script::outputs::fill` ends and writes only what is there: the place is at most the length, and stores keep the length.
+-- `test_script::outputs::fill` ends and writes only what is there: the place is at most the length,
+-- and stores keep the length.
 use Prim.Native.Nat.{_≤_, _-_}
 use mathlib.Core.Path.{_≡_}
 use native.Mathlib.Omega.{arith}

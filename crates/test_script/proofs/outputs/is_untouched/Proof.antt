@@ -1,4 +1,5 @@
--- `test_script::outputs::is_untouched` ends and reads only what is there: the place is at most the length, and what is left falls with each byte.
+-- `test_script::outputs::is_untouched` ends and reads only what is there: the place is at most the
+-- length, and what is left falls with each byte.
 use Prim.Native.Nat.{_≤_, _-_}
 use native.Mathlib.Omega.{arith}
 use lib.ListN.{length}

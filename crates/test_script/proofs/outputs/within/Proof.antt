@@ -1,4 +1,5 @@
--- `test_script::outputs::within` answers a number of the bytes there are, and so the length of as many taken from the front.
+-- `test_script::outputs::within` answers at most the number of bytes, and so the length of as many
+-- taken from the start.
 use native.Mathlib.Omega.{arith}
 use lib.ListN.{length-take}
 use Rattle.test_script.proofs.outputs.within.Statement.{statement}

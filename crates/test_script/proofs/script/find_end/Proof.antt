@@ -1,4 +1,5 @@
--- `test_script::script::find_end` ends and reads only what is there, and its answer lies between the place it starts at and the end.
+-- `test_script::script::find_end` ends and reads only what is there, and its answer lies between
+-- the place it starts at and the end.
 use Prim.Native.Nat.{_≤_, _-_}
 use lib.ListN.{length}
 use borrow.Author.Needs.{needs}

@@ -1,4 +1,5 @@
--- `test_script::script::find_name` ends and reads only what is there: a name begins at or before the place that is read.
+-- `test_script::script::find_name` ends and reads only what is there: a name begins at or before
+-- the place that is read.
 use Prim.Native.Nat.{_≤_, _-_}
 use mathlib.Core.Logic.{⊎-elim}
 use native.Mathlib.Omega.{arith}
