@@ -1,6 +1,6 @@
 -- Computed cases of the definitions: the edges of the checks, and a book of two sheets under a toy
--- cipher. No theorem of the demands sees a slip that both calls share, such as one chain that runs
--- on through all sheets, or a check that lets too much through; these cases do.
+-- cipher. No theorem of the demands reveals a slip that both calls share, such as one chain that
+-- runs on through all sheets, or a check that lets too much through; these cases do.
 use Prim.Native.Nat.{ℕ, zero, suc, _+_, _*_, _^_}
 use mathlib.Core.List.{List, [], _∷_, _++_}
 use mathlib.Core.Path.{refl}

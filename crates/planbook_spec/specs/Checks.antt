@@ -1,7 +1,7 @@
 -- Checks 1 to 4 and 14, and what the calls for constants, expanded keys and single blocks answer.
--- Numbers are compared whole, of whatever size. The way (Document 01's term: 1 by byte tables, 2 by
--- word tables, 3 worked out from the rules) is in check 2 and nowhere else: no result depends on
--- it. An argument `out` is the given output at entry; of its bytes only the number matters.
+-- Numbers are compared whole, of whatever size. The way (Document 01's term) is 1 by byte tables, 2
+-- by word tables, 3 worked out from the rules. It is in check 2 and nowhere else: no result depends
+-- on it. An argument `out` is the given output at entry; of its bytes only the number matters.
 use Prim.Native.Nat.{ℕ, _*_, _/_}
 use mathlib.Core.Bool.{_||_}
 use mathlib.Core.List.{List, [], _∷_, _++_}
@@ -29,7 +29,7 @@ blockCheck block = check 3 (eqb (length block) 16)
 unfoldable pub outputCheck : ℕ → List ℕ → Check
 outputCheck n out = check 4 (eqb (length out) n)
 
--- Check 14: an expanded key, given as bytes, four to a word, has 40, 48 or 56 words. Only their
+-- Check 14: the words, an expanded key given as bytes, four to a word, are 40, 48 or 56. Only their
 -- count is checked: words that no key gives are permitted.
 unfoldable pub wordsCheck : ℕ → Check
 wordsCheck byteCount = check 14 (eqb byteCount 160 || eqb byteCount 192 || eqb byteCount 224)

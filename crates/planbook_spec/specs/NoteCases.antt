@@ -1,6 +1,6 @@
 -- Computed cases: notes under the toy cipher of AnswerCases, worked out by hand, and the edges of
--- the call's checks. That a note comes back shows no slip in the counter, since both directions
--- share it; these cases do.
+-- the call's checks. That a note comes back does not reveal a slip in the counter, since both
+-- directions share it; these cases do.
 use Prim.Native.Nat.{ℕ, _*_, _^_}
 use mathlib.Core.List.{List, [], _∷_, _++_}
 use mathlib.Core.Path.{refl}

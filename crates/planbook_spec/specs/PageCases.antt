@@ -1,6 +1,6 @@
 -- Computed cases: planting pages as bytes, and the edges of the call's checks. That a page shows
--- its whole sheet shows no slip in how: a line with row and column exchanged shows as much. These
--- cases do.
+-- its whole sheet does not reveal a slip in how: a line with row and column exchanged shows as
+-- much. These cases do.
 use Prim.Native.Nat.{ℕ, _-_, _*_, _^_}
 use mathlib.Core.List.{List, [], _∷_, _++_}
 use mathlib.Core.Path.{refl}
