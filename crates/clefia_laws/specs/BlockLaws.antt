@@ -1,6 +1,6 @@
--- Decryption undoes encryption and encryption undoes decryption, on every block: under any expanded
--- key of a permitted count of words, and under every key of a permitted length. So encryption is
--- injective. What comes out is a block of 16 bytes.
+-- Decryption undoes encryption and encryption undoes decryption, on every block: under any words of
+-- a permitted count, and under every key of a permitted length. So encryption is injective. What
+-- comes out is a block of 16 bytes.
 use Prim.Native.Nat.{ℕ, zero, suc, _+_, _*_, _^_, _≤_, _<_}
 use mathlib.Core.Path.{_≡_, refl, sym, ap, _∙_}
 use mathlib.Core.List.{List, [], _∷_, _++_}

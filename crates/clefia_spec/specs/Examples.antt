@@ -1,8 +1,7 @@
 -- Worked examples of the CLEFIA specification (section 2.5.1): whole expanded keys, and one round
 -- under the first words of one. They catch slips that the marked cases miss: in rotations,
 -- DoubleSwap, the order of constants, keys and halves, whitening, bytes and words. (One printed
--- round key breaks the paper's own rules and is corrected here: RK15 of the 24-byte key is
--- 92cfc98e.)
+-- round key breaks the paper's own rules and is corrected: RK15 of the 24-byte key is 92cfc98e.)
 use Prim.Native.Nat.{ℕ}
 use mathlib.Core.List.{List, [], _∷_, _++_}
 use mathlib.Core.Path.{refl}

@@ -1,5 +1,5 @@
--- Numbers, their digits, and lists of words. A byte is a number below 2 ^ 8, a word one below 2 ^
--- 32. The first byte or bit is always the highest.
+-- Numbers, their digits, and lists of words. A byte is a number below 2 ^ 8, a word one below
+-- 2 ^ 32. The first byte or bit is always the highest.
 use Prim.Native.Nat.{ℕ, zero, suc, _+_, _-_, _*_, _/_, _%_, _^_, _<_}
 use mathlib.Core.Bool.{Bool, true, false}
 use mathlib.Core.List.{List, [], _∷_, _++_}
@@ -63,7 +63,7 @@ abbrev pub choose {ℓ} : {A : Type ℓ} → Bool → A → A → A
 choose true a b = a
 choose false a b = b
 
--- One of three values, by key length: for keys of 16, 24 and 32 bytes.
+-- One of three values, for keys of 16, 24 and 32 bytes.
 abbrev pub byKeyLength {ℓ} : {A : Type ℓ} → ℕ → A → A → A → A
 byKeyLength n a b c = choose (eqb n 16) a (choose (eqb n 24) b c)
 

@@ -68,7 +68,7 @@ module _ {f g h : List ℕ → List ℕ → List ℕ} (n : ℕ) (bs : List ℕ) 
 
 -- ---- whole books
 
--- A book with the first byte kind, and as long as its contents say.
+-- A book with the first byte `kind`, and as long as its contents say.
 pub data Shaped (kind : ℕ) : List ℕ → Type 0 where
   shaped : (b c d : ℕ) {bs : List ℕ}
       → Bytes (24 * fromDigits 256 (c ∷ d ∷ []) + 16 * recordCount (pieces 24 (fromDigits 256 (c ∷ d ∷ [])) bs)) bs
@@ -141,7 +141,7 @@ module _ {f g h : List ℕ → List ℕ → List ℕ} (kind kind′ : ℕ) where
   unfolding mapBodies number
   mapBodies-through (shaped b c d {bs = bs} q) t = ap (λ (l : List ℕ). kind ∷ b ∷ c ∷ d ∷ l) (rest-through _ bs q t)
 
--- A book of which nothing is changed: its kind is its own.
+-- A book given its own kind, and its bodies as they are, is unchanged.
 pub mapBodies-asItIs : {kind : ℕ} {book : List ℕ} → Shaped kind book → mapBodies kind asItIs book ≡ book
 unfolding mapBodies number
 mapBodies-asItIs {kind} (shaped b c d {bs = bs} q) =

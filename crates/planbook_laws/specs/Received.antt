@@ -31,8 +31,8 @@ use Rattle.planbook_laws.specs.PageLaws.{page-passed, line-count, pages-
 abbrev pub lastCheck : ℕ
 lastCheck = 14
 
--- An outcome whose number can be read: a check is one of those that exist, and a count is below 2 ^
--- 32.
+-- An outcome whose number can be read: a check is one of those that exist, and a count is below
+-- 2 ^ 32.
 pub data Readable : Outcome → Type 0 where
   refusal : {c : ℕ} → 1 ≤ c → c ≤ lastCheck → Readable (refused c)
   acceptance : {n : ℕ} {bs : List ℕ} → n < 2 ^ 32 → Readable (accepted n bs)

@@ -39,7 +39,8 @@ entryWith t n v = 0 ∷ 0 ∷ 0 ∷ t ∷ 0 ∷ n ∷ 0 ∷ 0 ∷ rising 16 v
 abbrev pub small : List ℕ
 small = 1 ∷ 0 ∷ 0 ∷ 1 ∷ entryWith 41 1 0x10 ++ (0 ∷ 0 ∷ 0 ∷ 41 ∷ 0 ∷ 0 ∷ 0 ∷ 7 ∷ 2 ∷ replicate 7 0)
 
--- The same book with b replicates in byte 6 of its entry, and replicate r in its record.
+-- The same book with b in byte 6 of its entry, the number of replicates, and replicate r in its
+-- record.
 abbrev pub replicated : ℕ → ℕ → List ℕ
 replicated b r = set (set small 10 b) 36 r
 

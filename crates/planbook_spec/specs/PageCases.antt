@@ -97,7 +97,7 @@ pageCases-hold = computed pageCases refl
 abbrev pub beyond : ℕ
 beyond = 2 ^ 64 - 1
 
--- Checks 5 to 11, 13 and 4. Where one of the first seven fails, 13 and 4 fail too.
+-- Checks 5 to 11, 13 and 4. Each of the first seven has a case where 13 and 4 fail too.
 pub pageCheckCases : List Case
 pageCheckCases =
     (paged (1 ∷ 0 ∷ 0 ∷ []) beyond 0 ∷ paged (replicate 65533 1) beyond 0 ∷ paged (replicate 65532 1) beyond 0 ∷ [] gives 5 * 2 ^ 32 ∷ 5 * 2 ^ 32 ∷ 6 * 2 ^ 32 ∷ [])
