@@ -1,6 +1,7 @@
 # shellcheck shell=sh
 # What the scripts of the tests share. A script sets test_name, the word that its lines begin with,
 # and then reads this file.
+test_name=${test_name:-tests}
 
 say() { echo "$test_name: $*"; }
 skip() { say "skipped: $*"; }
@@ -33,4 +34,19 @@ fuzz_targets() {
         name=${target#tests/fuzz/}
         echo "${name%_fuzzer.c}"
     done
+}
+
+# The shell scripts of the project: those named so, and those whose first line asks for a shell.
+shell_scripts() {
+    find .ci bench cli examples tests tools -type f 2>/dev/null | LC_ALL=C sort |
+        while read -r file; do
+            case ${file##*/} in
+            *.sh | *.bash) echo "$file" ;;
+            *.*) ;;
+            *)
+                read -r first_line <"$file" || continue
+                case $first_line in '#!'*sh) echo "$file" ;; esac
+                ;;
+            esac
+        done
 }
