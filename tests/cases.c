@@ -121,7 +121,7 @@ static uint64_t wrong_words_length(generator *g)
         416, 448, 480,
     };
     uint64_t len = random_chance(g, 2) ? ONE_OF(g, lengths) : random_below(g, MAX_SECRET + 1);
-    return len == 160 || len == 192 || len == 224 ? len + 1 : len;
+    return is_words_length(len) ? len + 1 : len;
 }
 
 static uint64_t wrong_way(generator *g)
@@ -156,12 +156,6 @@ static size_t wrong_output_length(generator *g, size_t right)
 
 /* Books. */
 
-static void put_half(uint8_t *bytes, size_t value)
-{
-    bytes[0] = (uint8_t)(value >> 8);
-    bytes[1] = (uint8_t)value;
-}
-
 /* A number of two bytes that is above a limit, often by one or two only. */
 static size_t just_above(generator *g, size_t limit)
 {
@@ -174,27 +168,12 @@ static uint8_t byte_above(generator *g, unsigned limit)
     return (uint8_t)random_between(g, limit + 1, random_chance(g, 2) ? limit + 1 : 255);
 }
 
-static size_t load_half(const uint8_t *bytes)
-{
-    return (size_t)bytes[0] << 8 | bytes[1];
-}
-
-static size_t sheets_of(const uint8_t *book)
-{
-    return load_half(book + 2);
-}
-
-static uint8_t *entry_at(uint8_t *book, size_t i)
-{
-    return book + HEAD_LENGTH + ENTRY_LENGTH * i;
-}
-
 /* The entry of the sheet that a record of the bodies belongs to. */
 static const uint8_t *entry_of_record(uint8_t *book, size_t record)
 {
     const uint8_t *entry = entry_at(book, 0);
-    for (; record >= load_half(entry + 4); entry += ENTRY_LENGTH)
-        record -= load_half(entry + 4);
+    for (; record >= records_of(entry); entry += ENTRY_LENGTH)
+        record -= records_of(entry);
     return entry;
 }
 
@@ -210,8 +189,8 @@ static size_t field_number(generator *g, size_t most)
 
 static void put_plot(uint8_t *record, size_t row, size_t column)
 {
-    put_half(record + 9, row);
-    put_half(record + 11, column);
+    store_half(record + 9, row);
+    store_half(record + 11, column);
 }
 
 static void make_plot(generator *g, uint8_t *record)
@@ -238,7 +217,7 @@ size_t make_clear_book(generator *g, const book_shape *shape, uint8_t *book)
     uint32_t trial = 0;
     book[0] = CLEAR_BOOK;
     book[1] = 0;
-    put_half(book + 2, shape->sheets);
+    store_half(book + 2, shape->sheets);
     for (size_t i = 0; i < shape->sheets; i++) {
         uint8_t *entry = entry_at(book, i);
         uint32_t most = random_chance(g, 4) ? UINT32_MAX / 100 : 3;
@@ -246,7 +225,7 @@ size_t make_clear_book(generator *g, const book_shape *shape, uint8_t *book)
         if (i + 1 == shape->sheets && random_chance(g, 8))
             trial = UINT32_MAX;
         reference_store_word(entry, trial);
-        put_half(entry + 4, shape->counts[i]);
+        store_half(entry + 4, shape->counts[i]);
         entry[6] = (uint8_t)(random_chance(g, 3) ? 0 : random_between(g, 1, MAX_REPLICATES));
         entry[7] = 0;
         random_fill(g, entry + 8, REFERENCE_BLOCK);
@@ -346,8 +325,8 @@ static void damage_entry(generator *g, uint8_t *book)
     size_t i = random_below(g, sheets_of(book));
     uint8_t *entry = entry_at(book, i);
     switch (random_below(g, 7)) {
-    case 0: put_half(entry + 4, 0); break;
-    case 1: put_half(entry + 4, just_above(g, MAX_RECORDS)); break;
+    case 0: store_half(entry + 4, 0); break;
+    case 1: store_half(entry + 4, just_above(g, MAX_RECORDS)); break;
     case 2: entry[6] = byte_above(g, MAX_REPLICATES); break;
     case 3: entry[7] = (uint8_t)random_between(g, 1, 255); break;
     case 4:
@@ -379,17 +358,17 @@ static void damage_head(generator *g, uint8_t *book)
 static void damage_sheet_number(generator *g, uint8_t *book)
 {
     if (sheets_of(book) <= MAX_SHEETS)
-        put_half(book + 2, just_above(g, MAX_SHEETS));
+        store_half(book + 2, just_above(g, MAX_SHEETS));
 }
 
 static size_t damage_length(generator *g, uint8_t *book, size_t len)
 {
-    size_t body = len - HEAD_LENGTH - ENTRY_LENGTH * sheets_of(book);
+    size_t body = len - contents_length(book);
     size_t more;
     switch (random_below(g, 4)) {
     case 0:
         if (sheets_of(book) > 0) {
-            put_half(entry_at(book, random_below(g, sheets_of(book))) + 4, random_between(g, 1, MAX_RECORDS));
+            store_half(entry_at(book, random_below(g, sheets_of(book))) + 4, random_between(g, 1, MAX_RECORDS));
             return len;
         }
         /* fall through */
@@ -418,13 +397,13 @@ static size_t damage_book_length(generator *g, unsigned damages, uint8_t *book, 
 
 static size_t damage_contents_length(generator *g, uint8_t *book, size_t len)
 {
-    size_t contents_end = HEAD_LENGTH + ENTRY_LENGTH * sheets_of(book);
+    size_t contents_end = contents_length(book);
     size_t too_many = (len - HEAD_LENGTH) / ENTRY_LENGTH + 1;
     if (len <= MAX_BOOK_LENGTH && contents_end > HEAD_LENGTH && random_chance(g, 2)) {
         size_t cut = random_chance(g, 4) ? contents_end - 1 : random_between(g, HEAD_LENGTH, contents_end - 1);
         return cut < len ? cut : len;
     }
-    put_half(book + 2, random_between(g, too_many, too_many + 2));
+    store_half(book + 2, random_between(g, too_many, too_many + 2));
     return len;
 }
 
@@ -439,11 +418,8 @@ static void make_book(generator *g, unsigned damages, test_case *c)
     if (has(damages, CHECK_RECORD))
         damage_record(g, book, len);
     if (c->in.kind == CALL_DECRYPT_BOOK) {
-        reference_words words;
         memcpy(clear, book, len);
-        reference_load_words(&words, c->secret, c->in.secret_len);
-        reference_encrypt_bodies(&words, clear, len, book);
-        book[0] = SEALED_BOOK;
+        seal_by_reference(c->secret, c->in.secret_len, clear, len, book);
     }
     if (has(damages, CHECK_ENTRY) && !random_chance(g, 4))
         damage_entry(g, book);
@@ -641,7 +617,7 @@ void make_random_case(generator *g, call_kind kind, test_case *c)
     if (call_is_book(kind) && in->input_len >= HEAD_LENGTH && !random_chance(g, 4)) {
         c->input[0] = (uint8_t)(kind == CALL_DECRYPT_BOOK ? SEALED_BOOK : CLEAR_BOOK);
         c->input[1] = 0;
-        put_half(c->input + 2, random_below(g, 4));
+        store_half(c->input + 2, random_below(g, 4));
     }
     in->out_len = reference_output_length(in);
     if (random_chance(g, 8) || in->out_len == 0)

@@ -5,7 +5,7 @@
 #ifndef CASES_H
 #define CASES_H
 
-#include "reference_book.h"
+#include "support.h"
 
 typedef struct {
     uint64_t state;
@@ -21,8 +21,7 @@ enum {
     MAX_SECRET = 512, /* lengths that 8 bits make permitted ones are below */
     MAX_COUNTER = 64,
     MAX_INPUT = 100000,
-    MAX_OUTPUT = MAX_INPUT + 64,
-    MAX_TEST_SHEETS = 96
+    MAX_OUTPUT = MAX_INPUT + 64
 };
 
 typedef struct {
@@ -31,11 +30,6 @@ typedef struct {
     uint8_t counter[MAX_COUNTER];
     uint8_t input[MAX_INPUT];
 } test_case;
-
-typedef struct {
-    size_t sheets;
-    size_t counts[MAX_TEST_SHEETS];
-} book_shape;
 
 /* The checks that a call has, as bits. */
 unsigned checks_of(call_kind kind);

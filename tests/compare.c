@@ -76,8 +76,8 @@ void fail_call(const call_input *in, const char *what, const char *how, ...)
 
 void fail_answer(const call_input *in, const char *what, uint64_t answer, uint64_t expected)
 {
-    fail_call(in, what, "check %" PRIu64 " and count %" PRIu64 ", expected check %" PRIu64 " and count %" PRIu64,
-              answer >> 32, answer & UINT32_MAX, expected >> 32, expected & UINT32_MAX);
+    fail_call(in, what, "check %d and count %" PRIu64 ", expected check %d and count %" PRIu64,
+              check_of(answer), answer & UINT32_MAX, check_of(expected), expected & UINT32_MAX);
 }
 
 /* Inputs are lent from blocks of just their length, so that a memory checker

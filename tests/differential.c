@@ -251,8 +251,9 @@ static void try_case(const test_case *c)
 {
     call_kind kind = c->in.kind;
     verdict v = compare_call(&c->in, "random input");
+    int answer = check_of(v.answer);
     inputs[kind]++;
-    answers[kind][v.answer >> 32]++;
+    answers[kind][answer]++;
     if (call_is_book(kind) && c->in.input_len >= 10000)
         long_books[kind]++;
     if (call_is_book(kind) && v.failing == 0 && c->in.input_len > longest_accepted)
@@ -264,8 +265,8 @@ static void try_case(const test_case *c)
         later_sheets += v.failing == 0 && c->in.sheet > 0;
     }
     for (int b = 1; b <= LAST_CHECK; b++)
-        if (b != (int)(v.answer >> 32) && (v.failing >> b & 1))
-            pairs[kind][v.answer >> 32][b]++;
+        if (b != answer && (v.failing >> b & 1))
+            pairs[kind][answer][b]++;
 }
 
 /* Why two checks cannot fail together in a call, or NULL if they can; a is the earlier. */

@@ -9,22 +9,15 @@ static uint8_t book[MAX_INPUT];
 static size_t book_len;
 static unsigned tried, tried_pages;
 
-static uint64_t refusal(int check)
-{
-    return (uint64_t)check << 32;
-}
-
 static void new_book(size_t sheets, size_t count)
 {
-    book_shape shape = {sheets, {0}};
-    for (size_t i = 0; i < sheets; i++)
-        shape.counts[i] = count;
+    book_shape shape = even_shape(sheets, count);
     book_len = make_clear_book(&random_source, &shape, book);
 }
 
 static uint8_t *entry(size_t i)
 {
-    return book + HEAD_LENGTH + ENTRY_LENGTH * i;
+    return entry_at(book, i);
 }
 
 static uint8_t *record(size_t sheets, size_t j)
@@ -34,7 +27,7 @@ static uint8_t *record(size_t sheets, size_t j)
 
 static size_t lines_of(size_t sheet)
 {
-    return 1 + ((size_t)entry(sheet)[4] << 8 | entry(sheet)[5]);
+    return 1 + records_of(entry(sheet));
 }
 
 static void expect_page(size_t sheet, size_t lines, uint64_t answer, const char *what)
@@ -47,8 +40,8 @@ static void expect_page(size_t sheet, size_t lines, uint64_t answer, const char 
 /* A book that is refused for what it is has no page either. One that is accepted has a page of each sheet, and no more. */
 static void expect_pages(uint64_t answer, const char *what)
 {
-    size_t sheets = (size_t)book[2] << 8 | book[3];
-    if (answer >> 32 != 0) {
+    size_t sheets = sheets_of(book);
+    if (check_of(answer) != 0) {
         expect_page(0, lines_of(0) <= MAX_RECORDS + 1 ? lines_of(0) : 2, answer, what);
         return;
     }
@@ -66,18 +59,16 @@ static void expect_lengths(uint64_t words_len, size_t out_len, uint64_t answer, 
     call_input in = {CALL_ENCRYPT_BOOK, words, words_len, 1, book, book_len, out_len};
     compare_ways(&in, answer, what);
     memcpy(sealed, book, book_len);
-    if (book_len >= HEAD_LENGTH && (words_len == 160 || words_len == 192 || words_len == 224)) {
-        reference_words loaded;
-        reference_load_words(&loaded, words, words_len);
-        reference_encrypt_bodies(&loaded, book, book_len, sealed);
-    }
+    if (book_len >= HEAD_LENGTH && is_words_length(words_len))
+        seal_by_reference(words, words_len, book, book_len, sealed);
     /* The first byte that decryption wants, or one that it does not want. */
     sealed[0] = book[0] == CLEAR_BOOK ? SEALED_BOOK : book[0] == SEALED_BOOK ? CLEAR_BOOK : book[0];
     in.kind = CALL_DECRYPT_BOOK;
     in.input = sealed;
     compare_ways(&in, answer, what);
     tried += 2;
-    if (answer >> 32 == 0 || (answer >> 32 >= CHECK_BOOK_LENGTH && answer >> 32 <= CHECK_RECORD))
+    if (check_of(answer) == 0 ||
+        (check_of(answer) >= CHECK_BOOK_LENGTH && check_of(answer) <= CHECK_RECORD))
         expect_pages(answer, what);
 }
 
@@ -196,10 +187,8 @@ static void check_entries(void)
 static void new_overfull_book(size_t sheets, size_t len)
 {
     new_book(sheets, 1);
-    for (size_t i = 0; i < sheets; i++) {
-        entry(i)[4] = 1024 >> 8;
-        entry(i)[5] = 0;
-    }
+    for (size_t i = 0; i < sheets; i++)
+        store_half(entry(i) + 4, MAX_RECORDS);
     if (len > book_len)
         random_fill(&random_source, book + book_len, len - book_len);
     book_len = len;

@@ -233,19 +233,13 @@ static void guard_calls(void)
 /* Answers that are stated here, for memory that the reference is not asked about. */
 static unsigned stated;
 
-/* A clear book: trial 1, one record, in reserve. */
-static const uint8_t one_record[] = {
-    1, 0, 0, 1, 0, 0, 0, 1, 0, 1, 0, 0, 0, 0, 0, 0, 0, 0, 0, 0, 0, 0, 0, 0, 0, 0, 0, 0,
-    0, 0, 0, 1, 0, 0, 0, 1, 1, 0, 0, 0, 0, 0, 0, 0,
-};
-
 static void expect(const call_input *in, uint8_t *out, int check, const char *what)
 {
     uint64_t answer;
     name_call(in, what);
     answer = library_call(in, out);
-    if (answer != (uint64_t)check << 32)
-        fail_answer(in, what, answer, (uint64_t)check << 32);
+    if (answer != refusal(check))
+        fail_answer(in, what, answer, refusal(check));
     stated++;
 }
 
@@ -284,7 +278,7 @@ static void null_pointers(void)
     expect(&(call_input){CALL_PAGE, NULL, 0, 0, NULL, 0, 64}, out, 5, "null book");
     expect(&(call_input){CALL_PAGE, NULL, 0, 0, NULL, 0, 0}, NULL, 5, "null book and output");
     expect(&(call_input){CALL_PAGE, NULL, 0, 0, book, 4, 0}, NULL, 13, "null output");
-    expect(&(call_input){CALL_PAGE, NULL, 0, 0, one_record, sizeof one_record, 0}, NULL, 4, "null output");
+    expect(&(call_input){CALL_PAGE, NULL, 0, 0, one_record_book, sizeof one_record_book, 0}, NULL, 4, "null output");
     for (size_t i = 0; i < sizeof out; i++)
         if (out[i] != 0)
             fail("a call with a null pointer changed output byte %zu", i);
@@ -338,8 +332,8 @@ static void wide_lengths(void)
                "wide note and output");
     }
     expect(&(call_input){CALL_PAGE, NULL, 0, 0, m, wide + 4, 64}, m, 5, "wide book");
-    expect(&(call_input){CALL_PAGE, NULL, 0, 0, one_record, sizeof one_record, wide + 64}, m, 4, "wide output");
-    expect(&(call_input){CALL_PAGE, NULL, 0, 0, one_record, sizeof one_record, 64, NULL, 0, wide}, m, 13, "wide sheet");
+    expect(&(call_input){CALL_PAGE, NULL, 0, 0, one_record_book, sizeof one_record_book, wide + 64}, m, 4, "wide output");
+    expect(&(call_input){CALL_PAGE, NULL, 0, 0, one_record_book, sizeof one_record_book, 64, NULL, 0, wide}, m, 13, "wide sheet");
     munmap(m, mapped);
     printf("guard: %u calls with lengths above 2^32\n", stated);
 }

@@ -51,9 +51,9 @@ static size_t read_key(const char *past, const char *folder, uint8_t key[32])
     return len;
 }
 
-static size_t records_of(const file *book)
+static size_t records_in(const file *book)
 {
-    return (book->len - HEAD_LENGTH - ENTRY_LENGTH * ((size_t)book->bytes[2] << 8 | book->bytes[3])) / RECORD_LENGTH;
+    return (book->len - contents_length(book->bytes)) / RECORD_LENGTH;
 }
 
 /* By each way; where it is accepted the output is as the season had it. */
@@ -61,7 +61,7 @@ static void expect_book(call_kind kind, const uint8_t *words, size_t words_len, 
 {
     call_input in = {kind, words, words_len, 1, from->bytes, from->len, from->len};
     for (in.way = 1; in.way <= WAYS; in.way++) {
-        compare_stated(&in, check == 0 ? records_of(from) : (uint64_t)check << 32, "book of a past season");
+        compare_stated(&in, check == 0 ? records_in(from) : refusal(check), "book of a past season");
         if (check == 0 && (to->len != from->len || memcmp(last_output(), to->bytes, to->len) != 0))
             fail_call(&in, "book of a past season", "other bytes than in its season");
     }

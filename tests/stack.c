@@ -115,8 +115,8 @@ static void add_expanded_key(void)
 static size_t make_book(uint8_t *book)
 {
     static const book_shape shape = {2, {3, RECORDS - 3}};
-    uint8_t *entries = book + HEAD_LENGTH, *record = entries + 2 * ENTRY_LENGTH;
     size_t len = make_clear_book(&random_source, &shape, book);
+    uint8_t *entries = entry_at(book, 0), *record = record_at(book, 0);
     reference_store_word(entries, 0x5b3c9d01);
     reference_store_word(entries + ENTRY_LENGTH, 0x6e1f8a27);
     for (uint32_t i = 0; i < RECORDS; i++, record += RECORD_LENGTH) {
@@ -144,14 +144,10 @@ static void make_block_input(void)
 static void make_book_input(void)
 {
     uint8_t clear[sizeof input];
-    reference_words words;
     in.input_len = make_book(clear);
     memcpy(input, clear, in.input_len);
-    if (in.kind != CALL_DECRYPT_BOOK)
-        return;
-    reference_load_words(&words, secret, in.secret_len);
-    reference_encrypt_bodies(&words, clear, in.input_len, input);
-    input[0] = SEALED_BOOK;
+    if (in.kind == CALL_DECRYPT_BOOK)
+        seal_by_reference(secret, in.secret_len, clear, in.input_len, input);
 }
 
 /* The encrypted counter blocks are the sealed note exclusive-ored with the text. */
@@ -201,8 +197,8 @@ static size_t words_left(int wiping, int accepted)
 {
     wipe = wiping;
     run_on_own_stack(call_and_wipe);
-    if ((answer >> 32 == 0) != accepted)
-        fail_call(&in, "stack", "check %" PRIu64, answer >> 32);
+    if ((check_of(answer) == 0) != accepted)
+        fail_call(&in, "stack", "check %d", check_of(answer));
     return secrets_found();
 }
 
@@ -260,7 +256,7 @@ static size_t left_in_buffer(int wiping, int wiping_buffer)
     wipe_buffer = wiping_buffer;
     run_on_own_stack(prepare_and_wipe);
     if (answer != 1)
-        fail_call(&in, "wipe", "check %" PRIu64, answer >> 32);
+        fail_call(&in, "wipe", "check %d", check_of(answer));
     return secrets_between(buffer_at, buffer_at + PLANBOOK_MAX_EXPANDED_BYTES);
 }
 

@@ -18,11 +18,6 @@ enum {
     CHECKS_AT_ONCE = 20 /* of check 14 and each other of each call */
 };
 
-static uint64_t refusal(int check)
-{
-    return (uint64_t)check << 32;
-}
-
 /* What is sealed and opened under all words: a block, a book, and a note whose number wraps. */
 
 enum { NOTE_BYTES = 5 * REFERENCE_BLOCK + 5, BOOK_ROOM = 200, JOBS = 3 };
@@ -104,7 +99,7 @@ static void try_drawn(size_t len)
  * where one of their bits was changed, an opened book differs in entries alone. */
 static void expect_other_entries(const call_input *in, size_t changed, const char *what)
 {
-    size_t bodies = HEAD_LENGTH + ENTRY_LENGTH * (size_t)book[3];
+    size_t bodies = contents_length(book);
     if (changed >= 4 && (changed < 16 || changed >= 20))
         return;
     for (size_t i = 0; i < in->out_len; i++) {
@@ -216,11 +211,10 @@ static void check_prepared_words(void)
 /* Another book that keeps all rules, or the same: returns its length. */
 static size_t make_other(uint8_t *other, const uint8_t *clear, size_t len, const book_shape *shape)
 {
-    uint8_t *entry = other + HEAD_LENGTH + ENTRY_LENGTH * random_below(&random_source, shape->sheets);
-    uint8_t *bodies = other + HEAD_LENGTH + ENTRY_LENGTH * shape->sheets;
-    size_t records = (len - (size_t)(bodies - other)) / RECORD_LENGTH;
-    uint8_t *record = bodies + RECORD_LENGTH * random_below(&random_source, records);
+    size_t records = (len - contents_length(clear)) / RECORD_LENGTH;
+    uint8_t *entry = entry_at(other, random_below(&random_source, shape->sheets)), *record;
     memcpy(other, clear, len);
+    record = record_at(other, random_below(&random_source, records));
     switch (random_below(&random_source, 7)) {
     case 0: return len;
     case 1: entry[8 + random_below(&random_source, REFERENCE_BLOCK)] ^= 1; return len;
@@ -273,7 +267,7 @@ static unsigned lengths_refused;
 static void try_length(const uint8_t *words, size_t len)
 {
     static uint8_t sealed[JOBS][BOOK_ROOM];
-    int permitted = len == 160 || len == 192 || len == 224;
+    int permitted = is_words_length(len);
     for (size_t i = 0; i < JOBS; i++) {
         const job *j = &jobs[i];
         call_input in = job_call(j, j->seal, words, len, j->clear);
@@ -339,8 +333,8 @@ static void check_unnoticed_damage(void)
         size_t changed, shown; /* a byte of the words, and one of the book */
         uint8_t bit;
     } damages[] = {{0, 32, 0x80}, {3, 35, 0x40}, {4, 40, 0x10}, {4, 40, 0x01}};
-    uint8_t clear[44] = {1, 0, 0, 1, 0, 0, 0, 41, 0, 1}, sealed[sizeof clear], words[REFERENCE_MAX_WORDS_LENGTH];
-    memcpy(clear + 28, (uint8_t[]){0, 0, 0, 41, 0, 0, 0, 7, 2, 0, 12, 0, 3}, 13);
+    uint8_t clear[ONE_RECORD_LENGTH], sealed[sizeof clear], words[REFERENCE_MAX_WORDS_LENGTH];
+    memcpy(clear, one_record_book, sizeof clear);
     for (size_t len = 160; len <= 224; len += 32)
         for (size_t i = 0; i < sizeof damages / sizeof damages[0]; i++) {
             call_input in = {CALL_DECRYPT_BOOK, words, len, 1, sealed, sizeof sealed, sizeof sealed};

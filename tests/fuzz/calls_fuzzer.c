@@ -1,4 +1,4 @@
-// sources: tests/compare.c tests/cases.c tests/library.c tests/reference_book.c
+// sources: tests/compare.c tests/cases.c tests/support.c tests/library.c tests/reference_book.c
 /*
  * A libFuzzer target: one call, made from the fuzzer's bytes and held against the reference (compare.c), which ends the
  * program where answer, output, a byte beside it or an input is not as it must be. The library itself carries no

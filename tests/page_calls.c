@@ -7,11 +7,6 @@
 static test_case c; /* the call that is asked about; its input is the book */
 static unsigned tried;
 
-static uint64_t refusal(int check)
-{
-    return (uint64_t)check << 32;
-}
-
 static verdict expect(uint64_t answer, const char *what)
 {
     tried++;
@@ -21,14 +16,6 @@ static verdict expect(uint64_t answer, const char *what)
 /* Books and pages typed out by hand. */
 
 #define HEADING "     TRIAL      ENTRY R ROW COL\n"
-
-/* The book of the request. */
-static const uint8_t one_record[] = {
-    0x01, 0x00, 0x00, 0x01,
-    0x00, 0x00, 0x00, 0x29, 0x00, 0x01, 0x00, 0x00, 0xb1, 0x05, 0x7e, 0x92, 0x3c, 0xd8, 0x40, 0xef,
-    0x66, 0x1a, 0x8b, 0x27, 0xf4, 0x53, 0x0c, 0xae,
-    0x00, 0x00, 0x00, 0x29, 0x00, 0x00, 0x00, 0x07, 0x02, 0x00, 0x0c, 0x00, 0x03, 0x00, 0x00, 0x00,
-};
 
 /* Sheets of three records and of five, in no order but that of the body; the highest numbers, and plants in reserve. */
 static const uint8_t two_sheets[] = {
@@ -53,7 +40,7 @@ static const struct {
     uint64_t sheet;
     const char *text;
 } typed_pages[] = {
-    {one_record, sizeof one_record, 0,
+    {one_record_book, sizeof one_record_book, 0,
      HEADING
      "        41          7 2  12   3\n"},
     {two_sheets, sizeof two_sheets, 0,
@@ -164,7 +151,7 @@ static void check_broken_records(void)
             for (size_t i = 0; i < sizeof changes / sizeof changes[0]; i++) {
                 new_book(&three_sheets);
                 ask_for(sheet, LINE_LENGTH * (1 + three_sheets.counts[sheet]));
-                c.input[HEAD_LENGTH + 3 * ENTRY_LENGTH + RECORD_LENGTH * j + changes[i][0]] ^= changes[i][1];
+                record_at(c.input, j)[changes[i][0]] ^= changes[i][1];
                 expect(refusal(11), "broken record in some sheet");
             }
 }
@@ -172,16 +159,14 @@ static void check_broken_records(void)
 /* A call with the faults of some checks; the book has 65 sheets where there are to be too many. */
 static void break_book(unsigned faults)
 {
-    book_shape many = {65, {0}};
-    for (size_t i = 0; i < many.sheets; i++)
-        many.counts[i] = 1;
+    book_shape many = even_shape(65, 1);
     new_book(faults >> CHECK_SHEET_NUMBER & 1 ? &many : &three_sheets);
     if (faults >> CHECK_RECORD & 1)
         c.input[c.in.input_len - 1] = 1;
     if (faults >> CHECK_LENGTH & 1)
         c.input[c.in.input_len++] = 0;
     if (faults >> CHECK_ENTRY & 1)
-        c.input[HEAD_LENGTH + ENTRY_LENGTH + 7] = 1;
+        entry_at(c.input, 1)[7] = 1;
     if (faults >> CHECK_CONTENTS_LENGTH & 1) /* more sheets than there is room for */
         c.input[faults >> CHECK_SHEET_NUMBER & 1 ? 2 : 3] = 64;
     if (faults >> CHECK_HEAD & 1)
@@ -193,7 +178,7 @@ static void break_book(unsigned faults)
             c.input[2] = 0xff;
     }
     if (faults >> CHECK_SHEET_INDEX & 1)
-        c.in.sheet = (uint64_t)c.input[2] << 8 | c.input[3];
+        c.in.sheet = sheets_of(c.input);
     if (faults >> CHECK_OUTPUT_LENGTH & 1)
         c.in.out_len--;
 }
@@ -231,9 +216,9 @@ static void check_numbers(void)
     new_book(&one);
     for (size_t i = 0; i < NUMBERS; i++)
         for (size_t j = 0; j < NUMBERS; j++) {
-            reference_store_word(c.input + HEAD_LENGTH, numbers[i]);
-            reference_store_word(c.input + HEAD_LENGTH + ENTRY_LENGTH, numbers[i]);
-            reference_store_word(c.input + HEAD_LENGTH + ENTRY_LENGTH + 4, numbers[j]);
+            reference_store_word(entry_at(c.input, 0), numbers[i]);
+            reference_store_word(record_at(c.input, 0), numbers[i]);
+            reference_store_word(record_at(c.input, 0) + 4, numbers[j]);
             expect(2, "trial and entry");
         }
 }
