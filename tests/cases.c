@@ -439,7 +439,7 @@ static void make_book(generator *g, unsigned damages, test_case *c)
 /* Notes. */
 
 /* Often with bytes ff at its end, and the number then some blocks lower: it
- * carries or wraps within the note, where a byte ff may stand before it. */
+ * carries or wraps within the note, where a byte ff may be before it. */
 static void make_counter(generator *g, size_t note_len, uint8_t counter[MAX_COUNTER])
 {
     uint8_t *number = counter + COUNTER_PREFIX_LENGTH;
@@ -495,7 +495,7 @@ static void choose_sheet(generator *g, unsigned damages, test_case *c)
         c->in.sheet = random_below(g, sheets);
 }
 
-/* Where the book does not tell the length of a page, that of some small sheet. */
+/* Where the book does not say the length of a page, that of some small sheet. */
 static size_t right_output_length(generator *g, const call_input *in)
 {
     size_t len = reference_output_length(in);

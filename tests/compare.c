@@ -80,16 +80,16 @@ void fail_answer(const call_input *in, const char *what, uint64_t answer, uint64
               check_of(answer), answer & UINT32_MAX, check_of(expected), expected & UINT32_MAX);
 }
 
-/* Inputs are lent from blocks of just their length, so that a memory checker
- * sees a byte read behind them. */
-static uint8_t *lend(const uint8_t *bytes, size_t len)
+/* Inputs are passed in blocks of just their length, so that a memory checker
+ * sees a byte read after them. */
+static uint8_t *copy_alone(const uint8_t *bytes, size_t len)
 {
-    uint8_t *lent = malloc(len == 0 ? 1 : len);
-    if (lent == NULL)
+    uint8_t *copy = malloc(len == 0 ? 1 : len);
+    if (copy == NULL)
         fail("no memory for %zu bytes", len);
     if (len > 0)
-        memcpy(lent, bytes, len);
-    return lent;
+        memcpy(copy, bytes, len);
+    return copy;
 }
 
 static size_t first_difference(const uint8_t *a, const uint8_t *b, size_t len)
@@ -102,11 +102,11 @@ static size_t first_difference(const uint8_t *a, const uint8_t *b, size_t len)
 
 static uint8_t output_before[FENCE + MAX_OUTPUT + FENCE];
 static uint8_t expected_output[FENCE + MAX_OUTPUT + FENCE];
-static uint8_t lent_output[FENCE + MAX_OUTPUT + FENCE];
+static uint8_t output[FENCE + MAX_OUTPUT + FENCE];
 
 const uint8_t *last_output(void)
 {
-    return lent_output + FENCE;
+    return output + FENCE;
 }
 
 /* Fills the output and its two fences, and has the reference give its verdict
@@ -122,28 +122,28 @@ static verdict expect_call(const call_input *in)
 static void compare_output(const call_input *in, const char *what)
 {
     size_t len = FENCE + in->out_len + FENCE;
-    size_t at = first_difference(expected_output, lent_output, len);
+    size_t at = first_difference(expected_output, output, len);
     if (at == len)
         return;
     if (at < FENCE || at >= FENCE + in->out_len)
         fail_call(in, what, "a byte beside the output was changed");
-    fail_call(in, what, "output byte %zu is %02x, expected %02x", at - FENCE, lent_output[at], expected_output[at]);
+    fail_call(in, what, "output byte %zu is %02x, expected %02x", at - FENCE, output[at], expected_output[at]);
 }
 
 /* Makes the call that expect_call was asked about. */
 static void make_call(const call_input *in, uint64_t expected, const char *what)
 {
     size_t secret_len = call_has_secret(in->kind) ? in->secret_len : 0;
-    uint8_t *secret = lend(in->secret, secret_len);
-    uint8_t *counter = lend(in->counter, in->counter_len);
-    uint8_t *input = lend(in->input, in->input_len);
-    call_input lent = *in;
+    uint8_t *secret = copy_alone(in->secret, secret_len);
+    uint8_t *counter = copy_alone(in->counter, in->counter_len);
+    uint8_t *input = copy_alone(in->input, in->input_len);
+    call_input given = *in;
     uint64_t answer;
-    memcpy(lent_output, output_before, FENCE + in->out_len + FENCE);
-    lent.secret = secret;
-    lent.counter = counter;
-    lent.input = input;
-    answer = library_call(&lent, lent_output + FENCE);
+    memcpy(output, output_before, FENCE + in->out_len + FENCE);
+    given.secret = secret;
+    given.counter = counter;
+    given.input = input;
+    answer = library_call(&given, output + FENCE);
     if (answer != expected)
         fail_answer(in, what, answer, expected);
     compare_output(in, what);

@@ -17,7 +17,7 @@ extern generator random_source;
 void start_test(const char *name, int argc, char **argv);
 uint64_t scaled(uint64_t number);
 
-/* The call in words: its name and what it is lent. */
+/* The call in words: its name and what it is given. */
 void describe_call(const call_input *in, char *text, size_t len);
 
 /* Say what went wrong and end the test. */

@@ -18,7 +18,7 @@ enum {
     BLOCK_CASES = 100000,   /* for each key length */
     ROUND_TRIPS = 300,      /* of books and of notes, for each number of words */
     INPUT_CASES = 200000,   /* for each call */
-    LEAST_ANSWERS = 1000,   /* for each check of each call, of notes in which the number wraps, of pages behind the first */
+    LEAST_ANSWERS = 1000,   /* for each check of each call, of notes in which the number wraps, of pages after the first */
     PAIR_TRIES = 2000       /* to make two checks fail together */
 };
 
@@ -228,17 +228,17 @@ static uint64_t pairs[CALLS][LAST_CHECK + 1][LAST_CHECK + 1];
 static uint64_t inputs[CALLS];
 static uint64_t long_books[CALLS];
 static size_t longest_accepted;
-static uint64_t wraps; /* accepted notes in which the number wraps behind a byte ff */
-static uint64_t later_sheets; /* accepted pages of a sheet behind the first */
+static uint64_t wraps; /* accepted notes in which the number wraps after a byte ff */
+static uint64_t later_sheets; /* accepted pages of a sheet after the first */
 
-static int wraps_behind_ff(const call_input *in)
+static int wraps_after_ff(const call_input *in)
 {
     uint64_t blocks = (in->input_len + REFERENCE_BLOCK - 1) / REFERENCE_BLOCK;
     uint64_t number = reference_load_word(in->counter + COUNTER_PREFIX_LENGTH);
     return number + blocks > (uint64_t)UINT32_MAX + 1 && in->counter[COUNTER_PREFIX_LENGTH - 1] == 0xff;
 }
 
-/* The header's helper: the length that the call wants, or 0 where the book has no such sheet; none has more than 64. */
+/* The header's own function: the length that the call wants, or 0 where the book has no such sheet; none has more than 64. */
 static void check_page_length(const call_input *in)
 {
     size_t len = planbook_page_length(in->input, in->input_len, in->sheet);
@@ -259,7 +259,7 @@ static void try_case(const test_case *c)
     if (call_is_book(kind) && v.failing == 0 && c->in.input_len > longest_accepted)
         longest_accepted = c->in.input_len;
     if (kind == CALL_CRYPT_NOTE && v.failing == 0)
-        wraps += wraps_behind_ff(&c->in);
+        wraps += wraps_after_ff(&c->in);
     if (kind == CALL_PAGE) {
         check_page_length(&c->in);
         later_sheets += v.failing == 0 && c->in.sheet > 0;
@@ -390,10 +390,10 @@ static void compare_inputs(void)
     printf("long books: %" PRIu64 " encrypted, %" PRIu64 " decrypted, %" PRIu64
            " for a page, of 10,000 bytes or more; longest accepted %zu\n",
            long_books[CALL_ENCRYPT_BOOK], long_books[CALL_DECRYPT_BOOK], long_books[CALL_PAGE], longest_accepted);
-    printf("notes whose number wraps behind a byte ff: %" PRIu64 " accepted\n", wraps);
+    printf("notes whose number wraps after a byte ff: %" PRIu64 " accepted\n", wraps);
     if (wraps < scaled(LEAST_ANSWERS))
         fail("only %" PRIu64 " notes wrap, %" PRIu64 " are due", wraps, scaled(LEAST_ANSWERS));
-    printf("pages of a sheet behind the first: %" PRIu64 " accepted\n", later_sheets);
+    printf("pages of a sheet after the first: %" PRIu64 " accepted\n", later_sheets);
     if (later_sheets < scaled(LEAST_ANSWERS))
         fail("only %" PRIu64 " such pages, %" PRIu64 " are due", later_sheets, scaled(LEAST_ANSWERS));
 }

@@ -148,7 +148,7 @@ static void check_head_and_contents(void)
     book_len--;
     expect(refusal(10), "body one byte short");
     book_len += 2;
-    expect(refusal(10), "one byte behind the body");
+    expect(refusal(10), "one byte after the body");
     new_book(0, 0);
     book_len = 20;
     expect(refusal(10), "a record, but no sheet");
@@ -194,7 +194,7 @@ static void new_overfull_book(size_t sheets, size_t len)
     book_len = len;
 }
 
-/* All entries are judged before the length is: behind such counts too, a broken entry is check 9's and not check 10's. */
+/* All entries are judged before the length is: after such counts too, a broken entry is check 9's and not check 10's. */
 static void check_overfull_contents(size_t sheets, size_t len)
 {
     static const uint8_t broken[][2] = {{4, 0}, {5, 1}, {6, 9}, {7, 0x80}}; /* a byte of the entry, and its value */
@@ -204,11 +204,11 @@ static void check_overfull_contents(size_t sheets, size_t len)
     for (size_t i = 0; i < sizeof broken / sizeof broken[0]; i++) {
         new_overfull_book(sheets, len);
         entry(last)[broken[i][0]] = broken[i][1];
-        expect(refusal(9), "a broken entry behind more records than a book can hold");
+        expect(refusal(9), "a broken entry after more records than a book can hold");
     }
     new_overfull_book(sheets, len);
     memcpy(entry(last), entry(last - 1), 4);
-    expect(refusal(9), "a trial met again behind more records than a book can hold");
+    expect(refusal(9), "a trial met again after more records than a book can hold");
 }
 
 /* Some byte of the last record set to a value. */
@@ -308,7 +308,7 @@ static void check_replicates(void)
     }
 }
 
-/* A sheet is held to its own number, and not to that of a sheet before or behind it. */
+/* A sheet is held to its own number, and not to that of a sheet before or after it. */
 static void check_sheets_replicates(void)
 {
     static const uint8_t greatest[] = {1, 8, 4, 8, 1};
@@ -371,7 +371,7 @@ void check_edges(void)
     check_overfull_contents(64, MAX_BOOK_LENGTH); /* 65,536 records: a sum in 16 bits would be 0 */
     check_records();
     check_plots(3, 2);
-    check_plots(1, 9); /* records that are looked at four abreast, and one behind them */
+    check_plots(1, 9); /* records that are looked at four in parallel, and one after them */
     check_every_row_and_column();
     check_replicates();
     check_sheets_replicates();
@@ -379,7 +379,7 @@ void check_edges(void)
     printf("edges: %u books with a stated answer, each by %d ways, and %u pages of them\n", tried, WAYS, tried_pages);
 }
 
-/* What a note's call is lent, and the check that answers. Where the way is 1, each way must answer so. */
+/* What a note's call is given, and the check that answers. Where the way is 1, each way must answer so. */
 typedef struct {
     uint64_t words_len, way;
     size_t counter_len, note_len, out_len;

@@ -1,7 +1,7 @@
 /*
- * What a call may touch: everything lent is fenced by pages that cannot be
- * read or written, inputs are read-only, and where a call is to be refused its
- * output is lent read-only once more.
+ * What a call may touch: everything passed to it is fenced by pages that cannot
+ * be read or written, inputs are read-only, and where a call is to be refused it
+ * is made again with its output read-only.
  *
  *   guard [SEED [SHORTER]]
  */
@@ -26,7 +26,7 @@ typedef struct {
     size_t mapped;
     uint8_t *room; /* the pages between the two fences */
     size_t room_len;
-    uint8_t *bytes; /* the lent bytes, against one of the fences */
+    uint8_t *bytes; /* the bytes passed, against one of the fences */
 } fenced;
 
 static size_t page;
@@ -88,7 +88,7 @@ static void unmap_fenced(fenced *f)
         fail("munmap refuses");
 }
 
-/* The room of the output after the call: the lent bytes as the reference has
+/* The room of the output after the call: the bytes passed as the reference has
  * them, all others as before. */
 static void compare_room(const call_input *in, const fenced *out, const uint8_t *expected)
 {
@@ -106,17 +106,17 @@ static verdict fenced_call(const call_input *in, placement where, int output_acc
     fenced counter = fenced_input(in->counter, in->counter_len, where);
     fenced input = fenced_input(in->input, in->input_len, where);
     fenced out = new_fenced(in->out_len, where);
-    call_input lent = *in;
+    call_input given = *in;
     verdict v;
     uint64_t answer;
     memcpy(expected, out.room, out.room_len);
     v = reference_call(in, expected + (out.bytes - out.room));
-    lent.secret = secret.bytes;
-    lent.counter = counter.bytes;
-    lent.input = input.bytes;
+    given.secret = secret.bytes;
+    given.counter = counter.bytes;
+    given.input = input.bytes;
     protect(out.room, out.room_len, output_access);
-    name_call(in, output_access == PROT_READ ? "output lent read-only to a refusal" : "fenced");
-    answer = library_call(&lent, out.bytes);
+    name_call(in, output_access == PROT_READ ? "read-only output of a refusal" : "fenced");
+    answer = library_call(&given, out.bytes);
     if (answer != v.answer)
         fail_answer(in, "fenced", answer, v.answer);
     compare_room(in, &out, expected);
@@ -285,8 +285,6 @@ static void null_pointers(void)
     printf("guard: %u calls with null pointers of length 0\n", stated);
 }
 
-/* Lengths of 2^32 and a permitted rest, in memory that is there: a length cut
- * to 32 bits would be accepted. */
 /* Words of a permitted length and 2^32 bytes more. */
 static void expect_wide_words(call_input in, uint8_t *m, size_t wide)
 {
@@ -297,6 +295,8 @@ static void expect_wide_words(call_input in, uint8_t *m, size_t wide)
     }
 }
 
+/* Lengths of 2^32 and a permitted rest, in memory that is there: a length cut
+ * to 32 bits would be accepted. */
 static void wide_lengths(void)
 {
     const size_t wide = (size_t)1 << 32;

@@ -1,5 +1,5 @@
 /*
- * The header's names and helpers, against the numbers that the reference has.
+ * The header's names and functions, against the numbers that the reference has.
  * It is built as C99 and as C++.
  */
 #include "planbook.h"
@@ -78,7 +78,7 @@ static void check_numbers(void)
     EXPECT(PLANBOOK_CHECK_WORDS_LENGTH, CHECK_WORDS);
 }
 
-static void check_helpers(void)
+static void check_answers(void)
 {
     uint64_t refusal = (uint64_t)11 << 32;
     expect("planbook_check of a refusal", planbook_check(refusal), 11);
@@ -158,7 +158,8 @@ static void check_counts(void)
     }
 }
 
-/* The number of sheets stands in the head: an index that is not below it has no page, whatever stands where its entry would be. */
+/* The number of sheets is in the head: an index that is not below it has no page, whatever is where
+ * its entry would be. */
 static void check_sheet_numbers(void)
 {
     for (size_t n = 0; n <= MAX_SHEETS; n++) {
@@ -202,11 +203,11 @@ int main(void)
 {
     check_lengths();
     check_numbers();
-    check_helpers();
+    check_answers();
     check_expanded_length();
     check_wipe();
     check_page_length();
     if (!wrong)
-        printf("header: passed: lengths, ways, checks and helpers, those of a page's and of words' length among them\n");
+        printf("header: passed: lengths, ways, checks and functions, those of a page's and of words' length among them\n");
     return wrong;
 }

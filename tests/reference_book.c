@@ -198,7 +198,7 @@ static int some_entry_broken(const book_view *book)
 }
 
 /* The records of a sheet that lie whole in the book, from *at on; moves *at
- * behind the sheet's body. */
+ * after the sheet's body. */
 static size_t records_there(const book_view *book, size_t sheet, size_t *at)
 {
     size_t start = *at;

@@ -86,7 +86,7 @@ typedef enum {
 #pragma GCC diagnostic ignored "-Wmissing-field-initializers"
 #endif
 
-/* What is lent in one call. The secret is the key where one is expanded, and
+/* What is passed to one call. The secret is the key where one is expanded, and
  * the words in the calls for blocks, books and notes. Constants have no secret,
  * way or input; secret_len is then the key length that is given as a number.
  * Only a note has a counter block; the note itself is the input. Only a page
@@ -117,9 +117,8 @@ int call_is_book(call_kind kind); /* the input is a book */
 int call_is_long(call_kind kind); /* it is a book or a note */
 int call_has_input(call_kind kind);
 
-/* Where a check stands in a call's order: at its number; but 14 stands where 1
- * does in the call with a key, and 4 comes last in a page, whose length the
- * book says. */
+/* The place of a check in a call's order: its number; but 14 is where 1 is in
+ * the call with a key, and 4 comes last in a page, whose length the book says. */
 int check_place(call_kind kind, int check);
 
 /* The bytes of output that a call asks for where its other lengths are right;
@@ -131,7 +130,7 @@ size_t reference_output_length(const call_input *in);
  * not. */
 unsigned reference_replicates(const uint8_t *entry);
 
-/* The verdict on a call. At entry out holds the out_len bytes that the lent
+/* The verdict on a call. At entry out holds the out_len bytes that the
  * output holds before the call, at exit those that it must hold afterwards. */
 verdict reference_call(const call_input *in, uint8_t *out);
 

@@ -2,7 +2,7 @@
  * Tables 2.1, 2.2 and 2.8 to 2.12 and the steps of sections 2.2 to 2.4 of the
  * CLEFIA specification, version 1.0.
  *
- * Two words are misprinted there and stand corrected here:
+ * Two words are misprinted there and are corrected here:
  *   table 2.10, constant 74 for 192-bit keys: printed 9dcfabab3, true 9dcfaba3;
  *   table 2.12, constant 56 for 256-bit keys: printed fb9678f, true fbd9678f.
  */

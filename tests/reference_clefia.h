@@ -3,7 +3,7 @@
  *
  * It is written from the tables that Sony's specification (version 1.0, 2010)
  * prints and from its steps, in the plainest form, and shares no source with
- * the library: a slip there is unlikely to stand here too.
+ * the library: a slip there is unlikely to be here too.
  */
 #ifndef REFERENCE_CLEFIA_H
 #define REFERENCE_CLEFIA_H
@@ -25,7 +25,7 @@ typedef struct {
     uint32_t round_keys[REFERENCE_MAX_ROUND_KEYS];
 } reference_words;
 
-/* Bytes that hold a word stand highest first. */
+/* The bytes of a word, the highest first. */
 uint32_t reference_load_word(const uint8_t *bytes);
 void reference_store_word(uint8_t *bytes, uint32_t word);
 

@@ -1,6 +1,6 @@
 /*
- * What a call leaves behind on the stack, and how much of it a call uses. Each call is made on a stack of its own, which is
- * then searched for the words of the key and of what it is expanded to, or the words that were lent, for those of the clear
+ * What a call leaves on the stack, and how much of it a call uses. Each call is made on a stack of its own, which is
+ * then searched for the words of the key and of what it is expanded to, or the words that were passed, for those of the clear
  * block, record or note, and of the encrypted counter blocks, which open the sealed note: after planbook_wipe_stack there must
  * be none; without it there must be some where a key or words were used, or this test could not fail.
  *
@@ -74,7 +74,7 @@ static uint32_t turned(uint32_t word)
     return word >> 24 | (word >> 8 & 0xff00) | (word << 8 & 0xff0000) | word << 24;
 }
 
-/* How many of the secret words stand somewhere between two places of the stack, in either order of their bytes. */
+/* How many of the secret words are somewhere between two places of the stack, in either order of their bytes. */
 static size_t secrets_between(size_t first, size_t end)
 {
     size_t found = 0;
@@ -111,7 +111,7 @@ static void add_expanded_key(void)
 }
 
 /* A book of two sheets. The first three words of each record are secrets; trials, entries and plots are made high, since
- * small numbers may stand on the stack for another reason. Row and column are one word here, 935 and 709 in the first record. */
+ * small numbers may be on the stack for another reason. Row and column are one word here, 935 and 709 in the first record. */
 static size_t make_book(uint8_t *book)
 {
     static const book_shape shape = {2, {3, RECORDS - 3}};
@@ -249,7 +249,7 @@ static void prepare_and_wipe(void)
         planbook_wipe(words, sizeof words);
 }
 
-/* How many of the words stand in the buffer afterwards. */
+/* How many of the words are in the buffer afterwards. */
 static size_t left_in_buffer(int wiping, int wiping_buffer)
 {
     wipe = wiping;

@@ -1,7 +1,7 @@
 /*
  * Many threads at once: every call by every way, from inputs that all threads
  * share into an output of each thread's own, held against the reference. Most
- * calls with words are lent the same ones, in memory that cannot be written.
+ * calls with words are given the same ones, in memory that cannot be written.
  * Built with the thread sanitizer it watches the code in C only, since the
  * library is not built with it.
  *

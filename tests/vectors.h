@@ -2,7 +2,7 @@
  * What section 2.5 of the CLEFIA specification prints: for each key length one
  * plaintext with its ciphertext, and from 2.5.1 the whitening and round keys.
  *
- * One round key is misprinted and stands corrected: RK15 of the 192-bit key,
+ * One round key is misprinted and corrected here: RK15 of the 192-bit key,
  * printed 92cf98e, true 92cfc98e.
  */
 #ifndef VECTORS_H
@@ -32,7 +32,7 @@ enum { NOTE_VECTORS = 2, MAX_VECTOR_NOTE = 64 };
 /*
  * Notes under the keys of the vectors above. No paper prints such: the sealed
  * bytes are those of the reference, and of a third CLEFIA, in Python, that was
- * written for them alone. They stand here so that the reference and the library
+ * written for them alone. They are here so that the reference and the library
  * cannot both go wrong in one way.
  */
 typedef struct {

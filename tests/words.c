@@ -1,5 +1,5 @@
 /*
- * Words as they are lent: such as no key gives, those that the library made of
+ * Words as they are passed: such as no key gives, those that the library made of
  * a key by each way, and words of every length.
  */
 #include "edges.h"
@@ -37,7 +37,7 @@ static job jobs[JOBS] = {
 
 static void make_jobs(void)
 {
-    static const book_shape shape = {2, {5, 2}}; /* as in the note, four blocks abreast and others */
+    static const book_shape shape = {2, {5, 2}}; /* as in the note, four blocks in parallel and others */
     jobs[1].len = make_clear_book(&random_source, &shape, book);
     random_fill(&random_source, block, sizeof block);
     random_fill(&random_source, note, sizeof note);
@@ -304,7 +304,7 @@ static void check_words_lengths(void)
     printf("lengths of words: %u refused by five calls, %d accepted\n", lengths_refused, KEY_LENGTHS);
 }
 
-/* Check 14 stands first, whatever fails beside it: each check of the call, and all at once. */
+/* Check 14 comes first, whatever fails beside it: each check of the call, and all at once. */
 static void check_words_first(void)
 {
     static test_case c;
@@ -365,7 +365,7 @@ static void check_places(void)
                 if (library_call(&in, out) != 100 || memcmp(out, due, 100) != 0)
                     fail_call(&in, "words at some place", "another answer or output at place %zu", at);
         }
-    printf("places: words at 64 places, lent as counter block and note too\n");
+    printf("places: words at 64 places, passed as counter block and note too\n");
 }
 
 void check_words(void)

@@ -32,7 +32,7 @@ typedef struct {
     size_t len;
 } recipe;
 
-/* The next bytes as a number; behind the end there are zeros. */
+/* The next bytes as a number; after the end there are zeros. */
 static uint64_t take(recipe *r, unsigned bytes)
 {
     uint64_t number = 0;

@@ -2,7 +2,7 @@
  * Books of past seasons, which were sealed under their key: under the words that the library expands it to, each opens to the
  * same bytes as in its season, and is sealed to the same ones.
  *
- *   seasons tests/past
+ *   past_seasons tests/past
  */
 #include "compare.h"
 
@@ -85,11 +85,11 @@ static void check_season(const char *past, const season *s)
 
 int main(int argc, char **argv)
 {
-    start_test("seasons", 1, argv);
+    start_test("past_seasons", 1, argv);
     if (argc != 2)
-        fail("usage: seasons FOLDER");
+        fail("usage: past_seasons FOLDER");
     for (size_t i = 0; i < SEASONS; i++)
         check_season(argv[1], &seasons[i]);
-    printf("seasons: passed: %d books of past seasons, by %d pairs of ways\n", SEASONS, WAYS * WAYS);
+    printf("past_seasons: passed: %d books of past seasons, by %d pairs of ways\n", SEASONS, WAYS * WAYS);
     return 0;
 }

@@ -1,7 +1,7 @@
 /*
  * The worked book, note and page of docs/FORMAT.md: the fields, and the bytes against the library and the reference.
  *
- *   format FORMAT.md KEY.hex
+ *   worked_examples FORMAT.md KEY.hex
  */
 #include "compare.h"
 #include "library.h"
@@ -224,9 +224,9 @@ int main(int argc, char **argv)
 {
     byte_row key, clear;
     reference_words expanded;
-    start_test("format", 1, argv);
+    start_test("worked_examples", 1, argv);
     if (argc != 3 || (page = fopen(argv[1], "r")) == NULL)
-        fail("usage: format FORMAT.md KEY.hex");
+        fail("usage: worked_examples FORMAT.md KEY.hex");
     find_line("## A worked book");
     key = read_bytes(find_line("    key "));
     if (key.len != 16 || memcmp(key.bytes, read_key_file(argv[2]).bytes, 16) != 0)
@@ -237,7 +237,7 @@ int main(int argc, char **argv)
     check_note(&expanded);
     find_line("## A worked page");
     check_page(&clear);
-    printf("format: passed: the worked book, %d fields and two times %d bytes, the worked note and the worked page\n",
+    printf("worked_examples: passed: the worked book, %d fields and two times %d bytes, the worked note and the worked page\n",
            CLEAR_FIELDS + SEALED_FIELDS, BOOK_BYTES);
     return 0;
 }
