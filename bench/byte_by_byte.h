@@ -1,4 +1,5 @@
-/* Ways 1 and 3 as the scope has them: each byte's substitution and products by themselves; and a page's numbers digit by digit. A part of plain.c. */
+/* Ways 1 and 3 as the scope has them: each byte's substitution and products by themselves; and a
+ * page's numbers digit by digit. A part of plain.c. */
 
 /*
  * GF(2^8) modulo z^8+z^4+z^3+z^2+1. The bit that leaves x is the one 11d clears,

@@ -2,7 +2,8 @@
 #ifndef LIMITS_H
 #define LIMITS_H
 
-/* Prints each with what was found, for the worst of the key lengths; answers how many are broken. */
+/* Prints each with what was found, for the worst of the key lengths; answers how many are
+ * broken. */
 int print_limits(void);
 
 #endif

@@ -1,4 +1,5 @@
-/* plain.c once more, under other names, with four bytes doubled in one word by ways 1 and 3, and two digits of a page at a time. */
+/* plain.c once more, under other names, with four bytes doubled in one word by ways 1 and 3, and
+ * two digits of a page at a time. */
 #define PACKED
 #define plain_constants packed_constants
 #define plain_expand_key packed_expand_key

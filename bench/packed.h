@@ -1,4 +1,5 @@
-/* Ways 1 and 3 with the four bytes of a word doubled at once, and a page's digits two at a time. A part of plain.c where it is built as packed.c. */
+/* Ways 1 and 3 with the four bytes of a word doubled at once, and a page's digits two at a time. A
+ * part of plain.c where it is built as packed.c. */
 
 #define EACH 0x01010101u
 
@@ -28,7 +29,8 @@ INLINE uint32_t linear_each(uint32_t w, const uint8_t image[8])
     return sum;
 }
 
-/* The first and the third byte from below through S1; byte_by_byte.h says how the inverse is found. */
+/* The first and the third byte from below through S1; byte_by_byte.h says how the inverse is
+ * found. */
 static uint32_t s1_of_two(uint32_t w)
 {
     uint32_t x = linear_each(w, S1_BEFORE) ^ 0x1e * EACH;
@@ -53,7 +55,8 @@ INLINE uint32_t substituted(int way, int f, uint32_t x)
                   : join(0, s0_by_rules(b), 0, s0_by_rules(d)) | s1_of_two(x >> 8) << 8;
 }
 
-/* The matrix with entry m(i ^ j) at row i, column j: entry m(k) meets the bytes whose places differ by k. */
+/* The matrix with entry m(i ^ j) at row i, column j: entry m(k) meets the bytes whose places differ
+ * by k. */
 INLINE uint32_t mixed(uint32_t s, uint32_t m0, uint32_t m1, uint32_t m2, uint32_t m3)
 {
     uint32_t by1 = products(s, m1 * EACH), by2 = products(s, m2 * EACH);

@@ -22,12 +22,18 @@
 
 enum { BYTE_TABLES = 1, WORD_TABLES = 2, BY_RULES = 3 };
 enum { BLOCK = 16, HEAD = 4, ENTRY = 24, IV_AT = 8 };
-enum { MOST_BYTES = 65532, MOST_SHEETS = 64, MOST_RECORDS = 1024, MOST_REPLICATES = 8, REPLICATES_BY_DEFAULT = 4 };
+enum {
+    MOST_BYTES = 65532,
+    MOST_SHEETS = 64,
+    MOST_RECORDS = 1024,
+    MOST_REPLICATES = 8,
+    REPLICATES_BY_DEFAULT = 4
+};
 enum { MOST_ROW = 999, MOST_COLUMN = 999, PLOT_AT = 9 };
 enum { MOST_WORDS = 56, MOST_NOTE_BYTES = 16384 };
 enum { LINE = 32 };
 enum { CLEAR = 1, SEALED = 2 };
-enum { ABREAST = 4 };
+enum { PARALLEL = 4 };
 
 /*
  * Words, the first byte highest, on a machine that has it lowest. Shifts say the
@@ -89,7 +95,8 @@ INLINE uint32_t s0_by_rules(uint32_t x)
     return (uint32_t)NIBBLE_BOXES[2][t0 ^ twice4(t1)] << 4 | NIBBLE_BOXES[3][twice4(t0) ^ t1];
 }
 
-/* What ways 1 and 3 do with the four bytes of a word, substituted() and mixed(), and a page with a number, put_number(). */
+/* What ways 1 and 3 do with the four bytes of a word, substituted() and mixed(), and a page with a
+ * number, put_number(). */
 #ifdef PACKED
 #include "packed.h"
 #else
@@ -122,46 +129,46 @@ INLINE uint32_t f1(int way, uint32_t key, uint32_t x)
 
 /*
  * The networks. The branches are renamed instead of rotated; after two rounds
- * they stand two places on. The number of rounds is even. More rounds unrolled,
+ * they are two places on. The number of rounds is even. More rounds unrolled,
  * a copy for each number of rounds, or the next round key added ahead made the
  * chain no faster: it waits for the tables.
  */
 
-/* A round key as it was lent, its highest byte first, or as a word. */
-INLINE uint32_t key_at(int lent, const uint8_t *p)
+/* A round key as it was passed, its highest byte first, or as a word. */
+INLINE uint32_t key_at(int as_bytes, const uint8_t *p)
 {
     uint32_t w;
     memcpy(&w, p, sizeof w);
-    return lent ? __builtin_bswap32(w) : w;
+    return as_bytes ? __builtin_bswap32(w) : w;
 }
 
-INLINE struct quad network4(int way, int lent, const void *keys, int rounds, struct quad t)
+INLINE struct quad network4(int way, int as_bytes, const void *keys, int rounds, struct quad t)
 {
     const uint8_t *at = keys;
     for (const uint8_t *end = at + 8 * rounds; at < end; at += 16) {
-        t.b ^= f0(way, key_at(lent, at), t.a);
-        t.d ^= f1(way, key_at(lent, at + 4), t.c);
-        t.c ^= f0(way, key_at(lent, at + 8), t.b);
-        t.a ^= f1(way, key_at(lent, at + 12), t.d);
+        t.b ^= f0(way, key_at(as_bytes, at), t.a);
+        t.d ^= f1(way, key_at(as_bytes, at + 4), t.c);
+        t.c ^= f0(way, key_at(as_bytes, at + 8), t.b);
+        t.a ^= f1(way, key_at(as_bytes, at + 12), t.d);
         t = (struct quad){t.c, t.d, t.a, t.b};
     }
     return (struct quad){t.d, t.a, t.b, t.c};
 }
 
-INLINE struct quad network4_back(int way, int lent, const void *keys, int rounds, struct quad t)
+INLINE struct quad network4_back(int way, int as_bytes, const void *keys, int rounds, struct quad t)
 {
     const uint8_t *start = keys;
     for (const uint8_t *at = start + 8 * rounds; at > start; at -= 16) {
-        t.b ^= f0(way, key_at(lent, at - 8), t.a);
-        t.d ^= f1(way, key_at(lent, at - 4), t.c);
-        t.a ^= f0(way, key_at(lent, at - 16), t.d);
-        t.c ^= f1(way, key_at(lent, at - 12), t.b);
+        t.b ^= f0(way, key_at(as_bytes, at - 8), t.a);
+        t.d ^= f1(way, key_at(as_bytes, at - 4), t.c);
+        t.a ^= f0(way, key_at(as_bytes, at - 16), t.d);
+        t.c ^= f1(way, key_at(as_bytes, at - 12), t.b);
         t = (struct quad){t.c, t.d, t.a, t.b};
     }
     return (struct quad){t.b, t.c, t.d, t.a};
 }
 
-/* The two rounds of a turn, for blocks abreast. */
+/* The two rounds of a turn, for blocks in parallel. */
 INLINE void first_round(int way, const uint32_t *keys, struct quad *t)
 {
     t->d ^= f1(way, keys[1], t->c);
@@ -184,7 +191,7 @@ INLINE void second_round(int way, const uint32_t *keys, struct quad *t)
  * through both rounds before the next, F0 or F1 first with each of the 24 orders
  * of the second round. None was faster by both tables.
  */
-INLINE void network4_abreast(int way, const uint32_t *keys, int rounds, struct quad t[ABREAST])
+INLINE void network4_each(int way, const uint32_t *keys, int rounds, struct quad t[PARALLEL])
 {
     struct quad t0 = t[0], t1 = t[1], t2 = t[2], t3 = t[3];
     for (const uint32_t *end = keys + 2 * rounds; keys < end; keys += 4) {
@@ -217,7 +224,7 @@ INLINE void second_back(int way, const uint32_t *at, struct quad *t)
     *t = (struct quad){t->c, t->d, t->a, t->b};
 }
 
-INLINE void network4_back_abreast(int way, const uint32_t *keys, int rounds, struct quad t[ABREAST])
+INLINE void network4_back_each(int way, const uint32_t *keys, int rounds, struct quad t[PARALLEL])
 {
     struct quad t0 = t[0], t1 = t[1], t2 = t[2], t3 = t[3];
     for (const uint32_t *at = keys + 2 * rounds; at > keys; at -= 4) {
@@ -340,12 +347,13 @@ INLINE int rounds_of(size_t words_len)
 }
 
 /*
- * A block alone, under the words as they were lent: each is loaded where it is
+ * A block alone, under the words as they were passed: each is loaded where it is
  * used, while the block waits for the tables. To read them all first takes 1.15
  * times as long by word tables.
  */
 
-INLINE void encrypt_one(int way, const uint8_t *words, int rounds, const uint8_t *block, uint8_t *out)
+INLINE void encrypt_one(int way, const uint8_t *words, int rounds, const uint8_t *block,
+                        uint8_t *out)
 {
     struct quad t = load_quad(block);
     t.b ^= load_word(words);
@@ -356,7 +364,8 @@ INLINE void encrypt_one(int way, const uint8_t *words, int rounds, const uint8_t
     store_quad(out, t);
 }
 
-INLINE void decrypt_one(int way, const uint8_t *words, int rounds, const uint8_t *block, uint8_t *out)
+INLINE void decrypt_one(int way, const uint8_t *words, int rounds, const uint8_t *block,
+                        uint8_t *out)
 {
     struct quad t = load_quad(block);
     t.b ^= load_word(words + 8);
@@ -382,7 +391,7 @@ INLINE void read_words(const uint8_t *words, size_t words_len, struct schedule *
             s->words[j] = load_word(words + 4 * j);
 }
 
-/* Blocks: one, or as many as go abreast. */
+/* Blocks: one, or as many as go in parallel. */
 
 INLINE void encrypt(int way, const struct schedule *s, struct quad *p, int lanes)
 {
@@ -391,8 +400,8 @@ INLINE void encrypt(int way, const struct schedule *s, struct quad *p, int lanes
         p[i].b ^= w[0];
         p[i].d ^= w[1];
     }
-    if (lanes == ABREAST)
-        network4_abreast(way, w + 4, s->rounds, p);
+    if (lanes == PARALLEL)
+        network4_each(way, w + 4, s->rounds, p);
     else
         *p = network4(way, 0, w + 4, s->rounds, *p);
     for (int i = 0; i < lanes; i++) {
@@ -408,8 +417,8 @@ INLINE void decrypt(int way, const struct schedule *s, struct quad *c, int lanes
         c[i].b ^= w[2];
         c[i].d ^= w[3];
     }
-    if (lanes == ABREAST)
-        network4_back_abreast(way, w + 4, s->rounds, c);
+    if (lanes == PARALLEL)
+        network4_back_each(way, w + 4, s->rounds, c);
     else
         *c = network4_back(way, 0, w + 4, s->rounds, *c);
     for (int i = 0; i < lanes; i++) {
@@ -435,7 +444,7 @@ INLINE void encrypt_chain(int way, const struct schedule *s, const uint8_t *iv,
 INLINE struct quad decrypt_next(int way, const struct schedule *s, struct quad chain,
                                 const uint8_t *in, uint8_t *out, int lanes)
 {
-    struct quad t[ABREAST];
+    struct quad t[PARALLEL];
     for (int i = 0; i < lanes; i++)
         t[i] = load_quad(in + BLOCK * i);
     decrypt(way, s, t, lanes);
@@ -450,14 +459,14 @@ INLINE void decrypt_chain(int way, const struct schedule *s, const uint8_t *iv,
                           const uint8_t *in, uint8_t *out, size_t blocks)
 {
     struct quad chain = load_quad(iv);
-    for (; blocks >= ABREAST; blocks -= ABREAST, in += ABREAST * BLOCK, out += ABREAST * BLOCK)
-        chain = decrypt_next(way, s, chain, in, out, ABREAST);
+    for (; blocks >= PARALLEL; blocks -= PARALLEL, in += PARALLEL * BLOCK, out += PARALLEL * BLOCK)
+        chain = decrypt_next(way, s, chain, in, out, PARALLEL);
     for (; blocks > 0; blocks--, in += BLOCK, out += BLOCK)
         chain = decrypt_next(way, s, chain, in, out, 1);
 }
 
 /*
- * Counter mode. By the rules blocks abreast gain nothing. The last blocks go one
+ * Counter mode. By the rules blocks in parallel gain nothing. The last blocks go one
  * by one: one more four is faster only by word tables where three or more are left.
  */
 
@@ -465,7 +474,7 @@ INLINE void decrypt_chain(int way, const struct schedule *s, const uint8_t *iv,
 INLINE void crypt_next(int way, const struct schedule *s, struct quad *counter,
                        const uint8_t *in, uint8_t *out, int lanes)
 {
-    struct quad t[ABREAST];
+    struct quad t[PARALLEL];
     for (int i = 0; i < lanes; i++) {
         t[i] = *counter;
         counter->d++;
@@ -480,8 +489,9 @@ INLINE void crypt_bytes(int way, const struct schedule *s, const uint8_t *first_
 {
     struct quad counter = load_quad(first_counter);
     if (way != BY_RULES)
-        for (; len >= ABREAST * BLOCK; len -= ABREAST * BLOCK, in += ABREAST * BLOCK, out += ABREAST * BLOCK)
-            crypt_next(way, s, &counter, in, out, ABREAST);
+        for (; len >= PARALLEL * BLOCK;
+             len -= PARALLEL * BLOCK, in += PARALLEL * BLOCK, out += PARALLEL * BLOCK)
+            crypt_next(way, s, &counter, in, out, PARALLEL);
     for (; len >= BLOCK; len -= BLOCK, in += BLOCK, out += BLOCK)
         crypt_next(way, s, &counter, in, out, 1);
     if (len > 0) {
@@ -495,7 +505,7 @@ INLINE void crypt_bytes(int way, const struct schedule *s, const uint8_t *first_
 
 /*
  * One copy of each for each way, picked once a call or a sheet. Chains and notes
- * stand apart from their callers: put into the loop over sheets, sealing by byte
+ * are apart from their callers: put into the loop over sheets, sealing by byte
  * tables takes 1.04 times as long.
  */
 
@@ -514,14 +524,17 @@ static void expand_by(uint64_t way, const uint8_t *key, size_t key_len, uint32_t
     BY_WAY(way, expand, key, key_len, words);
 }
 
-typedef void one_call(uint64_t way, const uint8_t *words, int rounds, const uint8_t *block, uint8_t *out);
+typedef void one_call(uint64_t way, const uint8_t *words, int rounds, const uint8_t *block,
+                      uint8_t *out);
 
-static void encrypt_one_by(uint64_t way, const uint8_t *words, int rounds, const uint8_t *block, uint8_t *out)
+static void encrypt_one_by(uint64_t way, const uint8_t *words, int rounds, const uint8_t *block,
+                           uint8_t *out)
 {
     BY_WAY(way, encrypt_one, words, rounds, block, out);
 }
 
-static void decrypt_one_by(uint64_t way, const uint8_t *words, int rounds, const uint8_t *block, uint8_t *out)
+static void decrypt_one_by(uint64_t way, const uint8_t *words, int rounds, const uint8_t *block,
+                           uint8_t *out)
 {
     BY_WAY(way, decrypt_one, words, rounds, block, out);
 }
@@ -594,7 +607,8 @@ static int check_format(uint8_t first, const uint8_t *book, size_t len, size_t *
     return len == HEAD + ENTRY * *n + BLOCK * *records ? 0 : 10;
 }
 
-/* Row and column in one word: both from 1 on, or both 0, which is reserve. Less 1, 0 is above every limit. */
+/* Row and column in one word: both from 1 on, or both 0, which is reserve. Less 1, 0 is above every
+ * limit. */
 INLINE int plot_holds(uint32_t plot)
 {
     return ((plot >> 16) - 1 < MOST_ROW && (plot & 0xffff) - 1 < MOST_COLUMN) || plot == 0;
@@ -603,8 +617,8 @@ INLINE int plot_holds(uint32_t plot)
 INLINE int record_holds(const uint8_t *record, uint32_t trial, uint32_t replicates)
 {
     struct quad r = load_quad(record);
-    return r.a == trial && r.b != 0 && (r.c >> 24) - 1 < replicates && plot_holds(load_word(record + PLOT_AT))
-        && (r.d & 0xffffff) == 0;
+    return r.a == trial && r.b != 0 && (r.c >> 24) - 1 < replicates &&
+           plot_holds(load_word(record + PLOT_AT)) && (r.d & 0xffffff) == 0;
 }
 
 /* Check 11, for the bodies of the n sheets in the contents. */
@@ -727,7 +741,8 @@ uint64_t plain_encrypt_book(const uint8_t *words, size_t words_len, uint64_t way
         return refused(11);
     memcpy(out, book, start);
     out[0] = SEALED;
-    chain_sheets(encrypt_chain_by, way, words, words_len, book + HEAD, n, book + start, out + start);
+    chain_sheets(encrypt_chain_by, way, words, words_len, book + HEAD, n, book + start,
+                 out + start);
     return records;
 }
 
@@ -798,8 +813,8 @@ INLINE void put_line(const uint8_t *record, uint8_t *line)
 }
 
 /* The call, with one copy for each way to write a line. */
-INLINE uint64_t page_call(line_writer *write_line, const uint8_t *book, size_t book_len, uint64_t sheet,
-                          uint8_t *out, size_t out_len)
+INLINE uint64_t page_call(line_writer *write_line, const uint8_t *book, size_t book_len,
+                          uint64_t sheet, uint8_t *out, size_t out_len)
 {
     size_t n, records;
     int failed = check_format(CLEAR, book, book_len, &n, &records);
@@ -828,13 +843,15 @@ uint64_t plain_page(const uint8_t *book, size_t book_len, uint64_t sheet,
 }
 
 #ifndef PACKED
-/* By the C library, by way of a buffer: a zero comes behind the line, and the compiler does not know that rows are below 1,000. */
+/* By the C library, by way of a buffer: a zero comes after the line, and the compiler does not
+ * know that rows are below 1,000. */
 static void print_line(const uint8_t *record, uint8_t *line)
 {
     struct quad r = load_quad(record);
     uint32_t plot = load_word(record + PLOT_AT);
     char text[2 * LINE];
-    snprintf(text, sizeof text, "%10u %10u %1u %3u %3u\n", r.a, r.b, r.c >> 24, plot >> 16, plot & 0xffff);
+    snprintf(text, sizeof text, "%10u %10u %1u %3u %3u\n", r.a, r.b, r.c >> 24, plot >> 16,
+             plot & 0xffff);
     memcpy(line, text, LINE);
 }
 

@@ -1,7 +1,7 @@
 /*
  * The constant tables of plain.c. Only the two byte tables and the constants
  * of the key schedule are typed; the compiler makes the eight word tables
- * from the byte tables, so no entry stands here twice.
+ * from the byte tables, so no entry is here twice.
  */
 #ifndef PLAIN_TABLES_H
 #define PLAIN_TABLES_H

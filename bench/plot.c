@@ -42,17 +42,20 @@ static void line_at(const struct panel *p, double value, const char *style)
     text(p->file, LEFT - 6, y + 4, "text-anchor=\"end\"", label);
 }
 
-static void bars(struct panel *p, const char *name, const double *values, const int *colours, int count)
+static void bars(struct panel *p, const char *name, const double *values, const int *colours,
+                 int count)
 {
     double room = (double)(WIDTH - 20 - LEFT) / p->groups, wide = room * 0.8 / BARS_MOST;
     double middle = LEFT + room * (p->group++ + 0.5), x = middle - wide * count / 2;
     char label[32];
     for (int i = 0; i < count; i++, x += wide) {
         double h = height_of(p, values[i]);
-        fprintf(p->file, "<rect x=\"%.1f\" y=\"%.1f\" width=\"%.1f\" height=\"%.1f\" fill=\"%s\"/>\n",
-                x + 1, p->top + CHART - h, wide - 2, h, COLOURS[colours[i]]);
+        fprintf(p->file,
+                "<rect x=\"%.1f\" y=\"%.1f\" width=\"%.1f\" height=\"%.1f\" fill=\"%s\"/>\n", x + 1,
+                p->top + CHART - h, wide - 2, h, COLOURS[colours[i]]);
         snprintf(label, sizeof label, p->format, values[i]);
-        text(p->file, x + wide / 2, p->top + CHART - h - 4, "text-anchor=\"middle\" font-size=\"10\"", label);
+        text(p->file, x + wide / 2, p->top + CHART - h - 4,
+             "text-anchor=\"middle\" font-size=\"10\"", label);
     }
     text(p->file, middle, p->top + CHART + 18, "text-anchor=\"middle\"", name);
 }
@@ -88,7 +91,8 @@ enum { SHOWN_COUNT = sizeof SHOWN / sizeof SHOWN[0] };
 
 static void draw_ratios(FILE *f)
 {
-    static const char *const ways[BARS_MOST] = {"way 1, byte tables", "way 2, word tables", "way 3, by the rules", "no key, so no way"};
+    static const char *const ways[BARS_MOST] = {"way 1, byte tables", "way 2, word tables",
+                                                "way 3, by the rules", "no key, so no way"};
     static const int colours[BARS_MOST] = {0, 1, 2, 3};
     const struct task *page = find_task(PAGE, LARGEST_SHEET, 0, 0);
     double page_ratio = median_ratio(page->ns[LIBRARY], page->ns[PLAIN]);
@@ -101,9 +105,11 @@ static void draw_ratios(FILE *f)
         }
     struct panel p = {f, TOP, 0, high, 0, SHOWN_COUNT + 1, 0, "%.2f"};
     text(f, LEFT, TOP - 26, "font-weight=\"bold\"",
-         "Time of the library over time of plain C (1 is equal, lower is faster), a 16-byte key and its words; a page has none");
+         "Time of the library over time of plain C (1 is equal, lower is faster), a 16-byte key "
+         "and its words; a page has none");
     for (double at = 0; at <= high; at += 0.5)
-        line_at(&p, at, at == 1 ? "stroke=\"#333333\" stroke-dasharray=\"5 3\"" : "stroke=\"#dddddd\"");
+        line_at(&p, at,
+                at == 1 ? "stroke=\"#333333\" stroke-dasharray=\"5 3\"" : "stroke=\"#dddddd\"");
     for (int i = 0; i < SHOWN_COUNT; i++)
         bars(&p, SHOWN[i].name, values[i], colours, WAYS);
     bars(&p, "page of 1,024", &page_ratio, colours + WAYS, 1);
@@ -115,26 +121,32 @@ static void way_bars(struct panel *p, const char *name, uint64_t way)
     static const int colours[BARS_MOST] = {0, 1, 2, 3};
     const struct task *e = find_task(ENCRYPT_BOOK, LARGEST_BOOK, 16, way);
     const struct task *d = find_task(DECRYPT_BOOK, LARGEST_BOOK, 16, way);
-    double values[BARS_MOST] = {task_ns(e, LIBRARY), task_ns(e, PLAIN), task_ns(d, LIBRARY), task_ns(d, PLAIN)};
+    double values[BARS_MOST] = {task_ns(e, LIBRARY), task_ns(e, PLAIN), task_ns(d, LIBRARY),
+                                task_ns(d, PLAIN)};
     bars(p, name, values, colours, BARS_MOST);
 }
 
 static void draw_times(FILE *f, const struct scale *scales, size_t scale_count)
 {
     static const char *const names[BARS_MOST] = {
-        "library seals", "plain C seals, OpenSSL encrypts", "library opens", "plain C opens, OpenSSL decrypts",
+        "library seals",
+        "plain C seals, OpenSSL encrypts",
+        "library opens",
+        "plain C opens, OpenSSL decrypts",
     };
     static const int colours[2] = {1, 3};
     struct panel p = {f, TOP + PANEL, 1, 10000, 1, WAYS + (int)scale_count, 0, "%.0f"};
     text(f, LEFT, TOP + PANEL - 26, "font-weight=\"bold\"",
-         "Nanoseconds a record in the largest book, words of a 16-byte key (logarithmic; OpenSSL's ciphers for scale)");
+         "Nanoseconds a record in the largest book, words of a 16-byte key (logarithmic; OpenSSL's "
+         "ciphers for scale)");
     for (double ns = 1; ns <= 10000; ns *= 10)
         line_at(&p, ns, "stroke=\"#dddddd\"");
     way_bars(&p, "way 1", 1);
     way_bars(&p, "way 2", 2);
     way_bars(&p, "way 3", 3);
     for (size_t i = 0; i < scale_count; i++)
-        bars(&p, scales[i].name, (const double[]){scales[i].encrypt_ns, scales[i].decrypt_ns}, colours, 2);
+        bars(&p, scales[i].name, (const double[]){scales[i].encrypt_ns, scales[i].decrypt_ns},
+             colours, 2);
     legend(&p, names, BARS_MOST);
 }
 

@@ -14,21 +14,23 @@ static void print_machine(void)
             model[strcspn(model, "\n")] = 0;
     if (f != NULL)
         fclose(f);
-    printf("- CPU:%s\n", model != NULL ? model + 1 : " not told by this system");
+    printf("- CPU:%s\n", model != NULL ? model + 1 : " not reported by this system");
 }
 
 static void print_run(const struct disturbance *d)
 {
     printf("- Turns: %d\n", turns);
-    printf("- Another load on the core: %.0f s were spent waiting for it to end or on timings that it spoilt; "
-           "%d of %d timings were kept although it was there\n", d->waited_ns / 1e9, d->kept, d->timings);
+    printf("- Another load on the core: %.0f s were spent waiting for it to end or on timings\n"
+           "  that it spoilt; %d of %d timings were kept although it was there\n",
+           d->waited_ns / 1e9, d->kept, d->timings);
 }
 
 static void print_task(const struct task *t)
 {
-    static const char *names[] = {"expand a key", "encrypt one block", "decrypt one block",
-                                  "seal a book", "open a book", "a note", "a page",
-                                  "expand a key for each book and seal", "expand a key once and seal"};
+    static const char *names[] = {
+        "expand a key", "encrypt one block", "decrypt one block", "seal a book", "open a book",
+        "a note", "a page", "expand a key for each book and seal", "expand a key once and seal",
+    };
     if (t->kind == PAGE)
         printf("| none | none | %s", names[t->kind]);
     else
@@ -67,7 +69,8 @@ static void print_saved_by(const struct task *each, const struct task *once, enu
 
 static void print_saved(void)
 {
-    printf("| key bytes | way | library, for each book | library, once | once / each | C, for each book | C, once | once / each |\n"
+    printf("| key bytes | way | library, for each book | library, once | once / each | C, for each "
+           "book | C, once | once / each |\n"
            "|---:|---:|---:|---:|---:|---:|---:|---:|\n");
     for (size_t key_len = 16; key_len <= 32; key_len += 8)
         for (uint64_t way = 1; way <= WAYS; way++) {
@@ -82,26 +85,30 @@ static void print_saved(void)
 
 static void print_packed(void)
 {
-    printf("| key bytes | way | largest book sealed, four bytes a word, ns a record | over plain C | library over it |\n"
+    printf("| key bytes | way | largest book sealed, four bytes a word, ns a record | over plain C "
+           "| library over it |\n"
            "|---:|---:|---:|---:|---:|\n");
     for (size_t i = 0; i < MAIN_TASKS; i++) {
         const struct task *t = &tasks[i];
         if (has_side(t, PACKED))
-            printf("| %zu | %d | %.1f | %.3f | %.3f |\n", t->key_len, (int)t->way, task_ns(t, PACKED),
-                   median_ratio(t->ns[PACKED], t->ns[PLAIN]), median_ratio(t->ns[LIBRARY], t->ns[PACKED]));
+            printf("| %zu | %d | %.1f | %.3f | %.3f |\n", t->key_len, (int)t->way,
+                   task_ns(t, PACKED), median_ratio(t->ns[PACKED], t->ns[PLAIN]),
+                   median_ratio(t->ns[LIBRARY], t->ns[PACKED]));
     }
 }
 
 static void print_page_by(const char *how, enum side side)
 {
     const struct task *t = find_task(PAGE, LARGEST_SHEET, 0, 0);
-    printf("| %s | %.1f | %.3f | %.3f |\n", how, task_ns(t, side), median_ratio(t->ns[side], t->ns[PLAIN]),
-           median_ratio(t->ns[LIBRARY], t->ns[side]));
+    printf("| %s | %.1f | %.3f | %.3f |\n", how, task_ns(t, side),
+           median_ratio(t->ns[side], t->ns[PLAIN]), median_ratio(t->ns[LIBRARY], t->ns[side]));
 }
 
 static void print_other_pages(void)
 {
-    printf("| page of %d records | ns a line | over plain C | library over it |\n|---|---:|---:|---:|\n", LARGEST_SHEET);
+    printf("| page of %d records | ns a line | over plain C | library over it |\n"
+           "|---|---:|---:|---:|\n",
+           LARGEST_SHEET);
     print_page_by("plain C, two digits at a time, from a table", PACKED);
     print_page_by("plain C, each line by snprintf", PRINTED);
 }
@@ -115,7 +122,8 @@ static void print_scales(const struct scale *scales, size_t scale_count)
     printf("| OpenSSL, one chain of %d blocks | encrypt, ns a block | decrypt, ns a block |\n"
            "|---|---:|---:|\n", LARGEST_BOOK);
     for (size_t i = 0; i < scale_count; i++)
-        printf("| %s | %.1f | %.1f |\n", scales[i].name, scales[i].encrypt_ns, scales[i].decrypt_ns);
+        printf("| %s | %.1f | %.1f |\n", scales[i].name, scales[i].encrypt_ns,
+               scales[i].decrypt_ns);
 }
 
 static void print_growth_row(size_t records)
@@ -141,7 +149,8 @@ int print_report(const struct disturbance *d, const struct scale *scales, size_t
     print_run(d);
     printf("\n");
     print_tasks("library ns | plain C ns | library / C");
-    printf("\nWhat preparing once saves: %d books of %d records sealed under one key, which is expanded for each book or once, µs for all:\n\n",
+    printf("\nWhat preparing once saves: %d books of %d records sealed under one key, which is\n"
+           "expanded for each book or once, µs for all:\n\n",
            MANY_BOOKS, SMALL_BOOK);
     print_saved();
     printf("\nPlain C with four bytes doubled in one word, which no limit is about:\n\n");
@@ -161,7 +170,8 @@ void print_beside(const struct disturbance *d, int before_takes_keys)
     print_machine();
     print_run(d);
     if (before_takes_keys)
-        printf("- Before: a library that takes keys. Each of its calls is given the key and expands it, where that of now is given words\n");
+        printf("- Before: a library that takes keys. Each of its calls is given the key and\n"
+               "  expands it, where that of now is given words\n");
     printf("\n");
     print_tasks("now, ns | before, ns | now / before");
     print_rows(MAIN_TASKS, FIRST_GROWTH);

@@ -11,7 +11,8 @@ typedef uint64_t words_call(const uint8_t *words, size_t words_len, uint64_t way
 typedef uint64_t note_call(const uint8_t *words, size_t words_len, uint64_t way,
                            const uint8_t *counter, size_t counter_len,
                            const uint8_t *note, size_t note_len, uint8_t *out, size_t out_len);
-typedef uint64_t page_call(const uint8_t *book, size_t book_len, uint64_t sheet, uint8_t *out, size_t out_len);
+typedef uint64_t page_call(const uint8_t *book, size_t book_len, uint64_t sheet, uint8_t *out,
+                           size_t out_len);
 
 /* Where a side has no such call, null. */
 struct calls {
@@ -19,7 +20,8 @@ struct calls {
     words_call *encrypt_block, *decrypt_block, *encrypt_book, *decrypt_book;
     note_call *crypt_note;
     page_call *page;
-    int takes_keys; /* in place of words: a library before 3.0.0, which expands the key in every call */
+    int takes_keys; /* in place of words: a library before 3.0.0, which expands the key in every
+                       call */
 };
 
 /* bench/run has another name for it where an earlier library has no such call. */
@@ -29,9 +31,10 @@ struct calls {
 
 static struct calls sides[SIDES] = {
     [LIBRARY] = {planbook_expand_key, planbook_encrypt_block, planbook_decrypt_block,
-                 planbook_encrypt_book, planbook_decrypt_book, planbook_crypt_note, planbook_page, 0},
-    [PLAIN] = {plain_expand_key, plain_encrypt_block, plain_decrypt_block,
-               plain_encrypt_book, plain_decrypt_book, plain_crypt_note, PLAIN_PAGE, 0},
+                 planbook_encrypt_book, planbook_decrypt_book, planbook_crypt_note, planbook_page,
+                 0},
+    [PLAIN] = {plain_expand_key, plain_encrypt_block, plain_decrypt_block, plain_encrypt_book,
+               plain_decrypt_book, plain_crypt_note, PLAIN_PAGE, 0},
     [PACKED] = {.encrypt_book = packed_encrypt_book, .page = packed_page},
     [PRINTED] = {.page = printed_page},
 };
@@ -51,35 +54,41 @@ static int refuses_words(const struct calls *s)
 {
     static const uint8_t words[PLANBOOK_EXPANDED128_BYTES];
     uint8_t out[16];
-    return s->encrypt_block(words, sizeof words, 1, words, 16, out, 16) == (uint64_t)PLANBOOK_CHECK_KEY_LENGTH << 32;
+    return s->encrypt_block(words, sizeof words, 1, words, 16, out, 16) ==
+           (uint64_t)PLANBOOK_CHECK_KEY_LENGTH << 32;
 }
 
-/* What a call is lent first: words, or the key where the side takes keys. */
-struct lent {
+/* What a call is given first: words, or the key where the side takes keys. */
+struct given {
     const uint8_t *bytes;
     size_t len;
 };
 
 /* The words by the side's own expanding, which have their room with the caller. */
-static struct lent lend(const struct calls *s, const uint8_t *key, size_t key_len, uint64_t way, uint8_t *words)
+static struct given give(const struct calls *s, const uint8_t *key, size_t key_len, uint64_t way,
+                        uint8_t *words)
 {
     size_t len = planbook_expanded_length(key_len);
     if (s->takes_keys)
-        return (struct lent){key, key_len};
+        return (struct given){key, key_len};
     if (s->expand_key(key, key_len, way, words, len) != len / 4)
         stop("a side does not expand a key");
-    return (struct lent){words, len};
+    return (struct given){words, len};
 }
 
-/* Held to the lengths of words, by calls in which all else is wrong: check 14 comes before the others, and check 2 next. */
+/* Held to the lengths of words, by calls in which all else is wrong: check 14 comes before the
+ * others, and check 2 next. */
 static void check_lengths(const struct calls *s)
 {
     static const uint8_t any[PLANBOOK_MAX_EXPANDED_BYTES + 1];
-    words_call *const calls[] = {s->encrypt_block, s->decrypt_block, s->encrypt_book, s->decrypt_book};
+    words_call *const calls[] = {s->encrypt_block, s->decrypt_block, s->encrypt_book,
+                                 s->decrypt_book};
     uint8_t out[1];
     for (size_t len = 0; len <= sizeof any; len++) {
-        int permitted = len == PLANBOOK_EXPANDED128_BYTES || len == PLANBOOK_EXPANDED192_BYTES || len == PLANBOOK_EXPANDED256_BYTES;
-        uint64_t answer = (uint64_t)(permitted ? PLANBOOK_CHECK_WAY : PLANBOOK_CHECK_WORDS_LENGTH) << 32;
+        int permitted = len == PLANBOOK_EXPANDED128_BYTES || len == PLANBOOK_EXPANDED192_BYTES ||
+                        len == PLANBOOK_EXPANDED256_BYTES;
+        uint64_t answer = (uint64_t)(permitted ? PLANBOOK_CHECK_WAY : PLANBOOK_CHECK_WORDS_LENGTH)
+                          << 32;
         int same = s->crypt_note(any, len, 0, any, 0, any, 0, out, 1) == answer;
         for (size_t i = 0; i < sizeof calls / sizeof calls[0]; i++)
             same &= calls[i](any, len, 0, any, 0, out, 1) == answer;
@@ -109,7 +118,7 @@ static void check_vectors(const struct calls *s)
     for (size_t k = 0; k < KEY_LENGTHS; k++)
         for (uint64_t way = 1; way <= WAYS; way++) {
             uint8_t words[PLANBOOK_MAX_EXPANDED_BYTES], out[16], back[16];
-            struct lent w = lend(s, vector_key, 16 + 8 * k, way, words);
+            struct given w = give(s, vector_key, 16 + 8 * k, way, words);
             if (s->encrypt_block(w.bytes, w.len, way, vector_clear, 16, out, 16) != 1
                 || s->decrypt_block(w.bytes, w.len, way, out, 16, back, 16) != 1
                 || memcmp(out, vector_encrypted[k], 16) != 0 || memcmp(back, vector_clear, 16) != 0)
@@ -147,7 +156,7 @@ static void check_note(const struct calls *s)
     uint8_t note[LEN], out[LEN], back[LEN], words[PLANBOOK_MAX_EXPANDED_BYTES];
     make_note(note, LEN);
     for (uint64_t way = 1; way <= WAYS; way++) {
-        struct lent w = lend(s, vector_key, 16, way, words);
+        struct given w = give(s, vector_key, 16, way, words);
         if (s->crypt_note(w.bytes, w.len, way, vector_counter, 16, note, LEN, out, LEN) != LEN
             || s->crypt_note(w.bytes, w.len, way, vector_counter, 16, out, LEN, back, LEN) != LEN
             || memcmp(out, vector_note, LEN) != 0 || memcmp(back, note, LEN) != 0)
@@ -193,14 +202,16 @@ static void put_record(uint8_t *p, struct record r)
     put_number(p + 13, r.last, 3);
 }
 
-/* Below 16 the plot is in reserve: 78 of 1,024, at uneven distances, since the processor would learn even ones. */
+/* Below 16 the plot is in reserve: 78 of 1,024, at uneven distances, since the processor would
+ * learn even ones. */
 static uint8_t drawn_plots[PLANBOOK_MAX_SHEET_RECORDS];
 
-/* Each sheet's plots stand 40 to a row; those of the fifth sheet reach row 977 and column 996. */
+/* Each sheet's plots are 40 to a row; those of the fifth sheet reach row 977 and column 996. */
 static struct record planned(size_t sheet, uint32_t place)
 {
     uint32_t corner = 1 + 239 * (uint32_t)sheet;
-    struct record r = {trial_of(sheet), 1 + place * 7919 % 100000, 1 + place % 4, corner + place / 40, corner + place % 40, 0};
+    struct record r = {trial_of(sheet),     1 + place * 7919 % 100000, 1 + place % 4,
+                       corner + place / 40, corner + place % 40,       0};
     if (drawn_plots[place % sizeof drawn_plots] < 16)
         r.row = r.column = 0;
     return r;
@@ -228,7 +239,11 @@ static size_t make_book(uint8_t *book, size_t records)
 
 /* Many books of one sheet each, whose start blocks and records differ. */
 
-enum { BOOK_IV_AT = 12, BOOK_RECORDS_AT = 28, SMALL_BOOK_BYTES = BOOK_RECORDS_AT + 16 * SMALL_BOOK };
+enum {
+    BOOK_IV_AT = 12,
+    BOOK_RECORDS_AT = 28,
+    SMALL_BOOK_BYTES = BOOK_RECORDS_AT + 16 * SMALL_BOOK
+};
 
 static size_t make_books(uint8_t *books, const uint8_t start_blocks[][16])
 {
@@ -267,12 +282,18 @@ static const struct {
     size_t out_len;
     int check;
 } refused_pages[] = {
-    {3, 0, 1, 0, 96, 5}, {100, 0, 2, 0, 96, 6}, {100, 1, 1, 0, 96, 6}, {100, 2, 1, 0, 96, 7}, {51, 0, 1, 0, 96, 8},
-    {100, 9, 0, 0, 32, 9}, {100, 11, 1, 0, 96, 9}, {100, 35, 1, 0, 96, 9}, {99, 0, 1, 0, 96, 10}, {100, 9, 1, 0, 64, 10},
-    {100, 67, 1, 0, 96, 11}, {100, 99, 1, 0, 96, 11}, {100, 67, 1, 1, 64, 11}, {100, 99, 1, 1, 64, 11},
-    {100, 0, 1, 2, 64, 13}, {100, 0, 1, (uint64_t)1 << 32, 96, 13}, {4, 3, 0, 0, 32, 13},
-    {100, 0, 1, 0, 95, 4}, {100, 0, 1, 0, 64, 4}, {100, 0, 1, 0, 128, 4}, {100, 0, 1, 1, 96, 4},
-    {100, 99, 1, 2, 95, 11}, {100, 99, 1, 0, 95, 11}, {100, 0, 1, 2, 95, 13},
+    {3, 0, 1, 0, 96, 5},     {100, 0, 2, 0, 96, 6},
+    {100, 1, 1, 0, 96, 6},   {100, 2, 1, 0, 96, 7},
+    {51, 0, 1, 0, 96, 8},    {100, 9, 0, 0, 32, 9},
+    {100, 11, 1, 0, 96, 9},  {100, 35, 1, 0, 96, 9},
+    {99, 0, 1, 0, 96, 10},   {100, 9, 1, 0, 64, 10},
+    {100, 67, 1, 0, 96, 11}, {100, 99, 1, 0, 96, 11},
+    {100, 67, 1, 1, 64, 11}, {100, 99, 1, 1, 64, 11},
+    {100, 0, 1, 2, 64, 13},  {100, 0, 1, (uint64_t)1 << 32, 96, 13},
+    {4, 3, 0, 0, 32, 13},    {100, 0, 1, 0, 95, 4},
+    {100, 0, 1, 0, 64, 4},   {100, 0, 1, 0, 128, 4},
+    {100, 0, 1, 1, 96, 4},   {100, 99, 1, 2, 95, 11},
+    {100, 99, 1, 0, 95, 11}, {100, 0, 1, 2, 95, 13},
 };
 
 static int page_is_refused(const struct calls *s, size_t i)
@@ -282,9 +303,9 @@ static int page_is_refused(const struct calls *s, size_t i)
     memset(untouched, 0xa5, sizeof out);
     memcpy(book, page_book, sizeof book);
     book[refused_pages[i].at] = refused_pages[i].value;
-    return s->page(book, refused_pages[i].len, refused_pages[i].sheet, out, refused_pages[i].out_len)
-               == (uint64_t)refused_pages[i].check << 32
-        && memcmp(out, untouched, sizeof out) == 0;
+    return s->page(book, refused_pages[i].len, refused_pages[i].sheet, out,
+                   refused_pages[i].out_len) == (uint64_t)refused_pages[i].check << 32 &&
+           memcmp(out, untouched, sizeof out) == 0;
 }
 
 static void check_page(const struct calls *s)
@@ -321,7 +342,7 @@ void check_sides(void)
 
 /*
  * Held to the rule of records, so that no side is timed without a part of it.
- * Each record stands alone in a book; the start block of the sealed one is
+ * Each record is alone in a book; the start block of the sealed one is
  * changed by the bits in which it differs from the record that was sealed.
  */
 
@@ -329,33 +350,40 @@ static const struct {
     struct record record;
     int holds;
 } judged[] = {
-    {{41, 1, 1, 1, 1, 0}, 1}, {{41, 1, 4, 999, 999, 0}, 1}, {{41, 1, 1, 0, 0, 0}, 1},
-    {{42, 1, 1, 1, 1, 0}, 0}, {{41, 0, 1, 1, 1, 0}, 0}, {{41, 1, 0, 1, 1, 0}, 0}, {{41, 1, 5, 1, 1, 0}, 0},
-    {{41, 1, 1, 0, 1, 0}, 0}, {{41, 1, 1, 1, 0, 0}, 0}, {{41, 1, 1, 1000, 1, 0}, 0}, {{41, 1, 1, 1, 1000, 0}, 0},
-    {{41, 1, 1, 1, 1, 1}, 0},
+    {{41, 1, 1, 1, 1, 0}, 1},    {{41, 1, 4, 999, 999, 0}, 1}, {{41, 1, 1, 0, 0, 0}, 1},
+    {{42, 1, 1, 1, 1, 0}, 0},    {{41, 0, 1, 1, 1, 0}, 0},     {{41, 1, 0, 1, 1, 0}, 0},
+    {{41, 1, 5, 1, 1, 0}, 0},    {{41, 1, 1, 0, 1, 0}, 0},     {{41, 1, 1, 1, 0, 0}, 0},
+    {{41, 1, 1, 1000, 1, 0}, 0}, {{41, 1, 1, 1, 1000, 0}, 0},  {{41, 1, 1, 1, 1, 1}, 0},
 };
 
 static int judges_so(const struct calls *s, struct record r, uint64_t answer)
 {
-    enum { LEN = BOOK_RECORDS_AT + 16, WAY = PLANBOOK_WAY_WORD_TABLES, PAGE_LEN = 2 * PLANBOOK_LINE_BYTES };
+    enum {
+        LEN = BOOK_RECORDS_AT + 16,
+        WAY = PLANBOOK_WAY_WORD_TABLES,
+        PAGE_LEN = 2 * PLANBOOK_LINE_BYTES
+    };
     uint8_t book[LEN], sealed[LEN], before[16], out[PAGE_LEN], words[PLANBOOK_MAX_EXPANDED_BYTES];
-    struct lent w = lend(&sides[PLAIN], vector_key, 16, WAY, words);
+    struct given w = give(&sides[PLAIN], vector_key, 16, WAY, words);
     make_book(book, 1);
     plain_encrypt_book(w.bytes, w.len, WAY, book, LEN, sealed, LEN);
     memcpy(before, book + BOOK_RECORDS_AT, sizeof before);
     put_record(book + BOOK_RECORDS_AT, r);
     for (int i = 0; i < 16; i++)
         sealed[BOOK_IV_AT + i] ^= before[i] ^ book[BOOK_RECORDS_AT + i];
-    return (s->encrypt_book == NULL || s->encrypt_book(w.bytes, w.len, WAY, book, LEN, out, LEN) == answer)
-        && (s->decrypt_book == NULL || s->decrypt_book(w.bytes, w.len, WAY, sealed, LEN, out, LEN) == answer)
-        && (s->page == NULL || s->page(book, LEN, 0, out, PAGE_LEN) == (answer == 1 ? 2 : answer));
+    return (s->encrypt_book == NULL ||
+            s->encrypt_book(w.bytes, w.len, WAY, book, LEN, out, LEN) == answer) &&
+           (s->decrypt_book == NULL ||
+            s->decrypt_book(w.bytes, w.len, WAY, sealed, LEN, out, LEN) == answer) &&
+           (s->page == NULL || s->page(book, LEN, 0, out, PAGE_LEN) == (answer == 1 ? 2 : answer));
 }
 
 void check_rule(void)
 {
     for (int side = 0; side < SIDES; side++)
         for (size_t i = 0; i < sizeof judged / sizeof judged[0]; i++)
-            if (!judges_so(&sides[side], judged[i].record, judged[i].holds ? 1 : (uint64_t)PLANBOOK_CHECK_RECORD << 32))
+            if (!judges_so(&sides[side], judged[i].record,
+                           judged[i].holds ? 1 : (uint64_t)PLANBOOK_CHECK_RECORD << 32))
                 stop("a side does not keep the rule of records");
 }
 
@@ -371,11 +399,11 @@ static uint8_t drawn_words[KEY_LENGTHS][DRAWN][PLANBOOK_MAX_EXPANDED_BYTES];
 static uint8_t input[MOST_BYTES], output[SIDES][MOST_BYTES];
 static size_t input_len, output_len;
 
-/* What a side's call of number 0 is lent, and how far on that of the next one lies. */
+/* What a side's call of number 0 is given, and how far on that of the next one lies. */
 static struct {
-    struct lent first;
+    struct given first;
     size_t stride;
-} lent[SIDES];
+} given[SIDES];
 
 /* Marsaglia's xorshift, always from the same start. */
 static void draw(uint8_t *bytes, size_t len)
@@ -393,9 +421,11 @@ static void expand_drawn_keys(void)
         for (size_t i = 0; i < DRAWN; i++) {
             uint8_t theirs[PLANBOOK_MAX_EXPANDED_BYTES], *words = drawn_words[k][i];
             size_t key_len = 16 + 8 * k, len = planbook_expanded_length(key_len);
-            if (planbook_expand_key(drawn_keys[i], key_len, PLANBOOK_WAY_WORD_TABLES, words, len) != len / 4
-                || plain_expand_key(drawn_keys[i], key_len, PLANBOOK_WAY_WORD_TABLES, theirs, len) != len / 4
-                || memcmp(words, theirs, len) != 0)
+            if (planbook_expand_key(drawn_keys[i], key_len, PLANBOOK_WAY_WORD_TABLES, words, len) !=
+                    len / 4 ||
+                plain_expand_key(drawn_keys[i], key_len, PLANBOOK_WAY_WORD_TABLES, theirs, len) !=
+                    len / 4 ||
+                memcmp(words, theirs, len) != 0)
                 stop("the sides differ in the words of a key");
         }
 }
@@ -422,9 +452,11 @@ static void make_words_ready(const struct task *t)
 {
     size_t len = planbook_expanded_length(t->key_len);
     for (int side = 0; side < SIDES && len > 0; side++) {
-        lent[side].first = sides[side].takes_keys ? (struct lent){drawn_keys[0], t->key_len}
-                                                  : (struct lent){drawn_words[t->key_len / 8 - 2][0], len};
-        lent[side].stride = sides[side].takes_keys ? sizeof drawn_keys[0] : sizeof drawn_words[0][0];
+        given[side].first = sides[side].takes_keys
+                               ? (struct given){drawn_keys[0], t->key_len}
+                               : (struct given){drawn_words[t->key_len / 8 - 2][0], len};
+        given[side].stride =
+            sides[side].takes_keys ? sizeof drawn_keys[0] : sizeof drawn_words[0][0];
     }
 }
 
@@ -437,22 +469,25 @@ void make_ready(const struct task *t)
     if (t->kind == PAGE)
         output_len = PLANBOOK_LINE_BYTES * (t->blocks + 1);
     if (t->kind == DECRYPT_BOOK) {
-        plain_encrypt_book(lent[PLAIN].first.bytes, lent[PLAIN].first.len, PLANBOOK_WAY_WORD_TABLES, input, input_len,
-                           output[0], input_len);
+        const struct given *w = &given[PLAIN].first;
+        plain_encrypt_book(w->bytes, w->len, PLANBOOK_WAY_WORD_TABLES, input, input_len, output[0],
+                           input_len);
         memcpy(input, output[0], input_len);
     }
 }
 
 /* Answers the records of all books. */
-static uint64_t seal_books(const struct task *t, const struct calls *s, const uint8_t *key, uint8_t *out)
+static uint64_t seal_books(const struct task *t, const struct calls *s, const uint8_t *key,
+                           uint8_t *out)
 {
     uint8_t words[PLANBOOK_MAX_EXPANDED_BYTES];
-    struct lent w = {NULL, 0};
+    struct given w = {NULL, 0};
     uint64_t answers = 0;
     for (size_t at = 0; at < input_len; at += SMALL_BOOK_BYTES) {
         if (at == 0 || t->kind == BOOKS_EACH)
-            w = lend(s, key, t->key_len, t->way, words);
-        answers += s->encrypt_book(w.bytes, w.len, t->way, input + at, SMALL_BOOK_BYTES, out + at, SMALL_BOOK_BYTES);
+            w = give(s, key, t->key_len, t->way, words);
+        answers += s->encrypt_book(w.bytes, w.len, t->way, input + at, SMALL_BOOK_BYTES, out + at,
+                                   SMALL_BOOK_BYTES);
     }
     return answers;
 }
@@ -461,8 +496,9 @@ uint64_t call(const struct task *t, enum side side, size_t number)
 {
     const struct calls *s = &sides[side];
     const uint8_t *key = drawn_keys[number % DRAWN], *block = drawn_blocks[number % DRAWN];
-    const uint8_t *first = lent[side].first.bytes, *words = first + lent[side].stride * (number % DRAWN);
-    size_t words_len = lent[side].first.len;
+    const uint8_t *first = given[side].first.bytes,
+                  *words = first + given[side].stride * (number % DRAWN);
+    size_t words_len = given[side].first.len;
     uint8_t *out = output[side];
     switch (t->kind) {
     case EXPAND_KEY:
@@ -481,7 +517,8 @@ uint64_t call(const struct task *t, enum side side, size_t number)
     case PAGE:
         return s->page(input, input_len, 0, out, output_len);
     default:
-        return s->crypt_note(words, words_len, t->way, vector_counter, 16, input, input_len, out, output_len);
+        return s->crypt_note(words, words_len, t->way, vector_counter, 16, input, input_len, out,
+                             output_len);
     }
 }
 
@@ -492,8 +529,8 @@ static int agree(const struct task *t, size_t number)
     uint64_t ours = call(t, LIBRARY, number);
     int same = ours != 0 && ours >> 32 == 0;
     for (int side = PLAIN; side < SIDES && same; side++)
-        same = !has_side(t, side)
-            || (call(t, side, number) == ours && memcmp(output[LIBRARY], output[side], output_len) == 0);
+        same = !has_side(t, side) || (call(t, side, number) == ours &&
+                                      memcmp(output[LIBRARY], output[side], output_len) == 0);
     return same;
 }
 

@@ -29,7 +29,8 @@ const struct task *find_task(enum kind kind, size_t blocks, size_t key_len, uint
 int has_side(const struct task *t, enum side side)
 {
     if (side == PACKED)
-        return t->kind == PAGE || (t->kind == ENCRYPT_BOOK && t->blocks == LARGEST_BOOK && t->way != 2);
+        return t->kind == PAGE ||
+               (t->kind == ENCRYPT_BOOK && t->blocks == LARGEST_BOOK && t->way != 2);
     return side != PRINTED || t->kind == PAGE;
 }
 

@@ -82,7 +82,8 @@ void make_words(generator *g, uint8_t *words, size_t len)
     reference_store_words(words, &expanded);
 }
 
-/* Mostly those of a key; or with a bit of them changed, or drawn at random, or all alike: any are accepted. */
+/* Mostly those of a key; or with a bit of them changed, or drawn at random, or all alike: any are
+ * accepted. */
 static void choose_words(generator *g, test_case *c)
 {
     size_t len = ONE_OF(g, permitted_words_lengths);
@@ -100,10 +101,11 @@ static void choose_words(generator *g, test_case *c)
 static uint64_t wrong_key_number(generator *g)
 {
     static const uint64_t numbers[] = {
-        0, 1, 15, 17, 20, 23, 25, 31, 33, 40, 128, 192, 256, 0x110, 0x10010, 0x100000010, 0x100000018,
-        0x100000020, 0x8000000000000010, UINT64_MAX, UINT64_MAX - 15,
+        0, 1, 15, 17, 20, 23, 25, 31, 33, 40, 128, 192, 256, 0x110, 0x10010, 0x100000010,
+        0x100000018, 0x100000020, 0x8000000000000010, UINT64_MAX, UINT64_MAX - 15,
     };
-    uint64_t number = random_chance(g, 2) ? ONE_OF(g, numbers) : random_number(g) >> random_below(g, 60);
+    uint64_t number =
+        random_chance(g, 2) ? ONE_OF(g, numbers) : random_number(g) >> random_below(g, 60);
     return number == 16 || number == 24 || number == 32 ? number + 1 : number;
 }
 
@@ -113,12 +115,13 @@ static uint64_t wrong_key_length(generator *g)
     return len == 16 || len == 24 || len == 32 ? len - 1 : len;
 }
 
-/* A byte or a word more or less, numbers of words, lengths of keys, and what is permitted if cut to 8 bits. */
+/* A byte or a word more or less, numbers of words, lengths of keys, and what is permitted if cut to
+ * 8 bits. */
 static uint64_t wrong_words_length(generator *g)
 {
     static const uint64_t lengths[] = {
-        0, 1, 4, 16, 24, 32, 40, 48, 56, 156, 159, 161, 164, 176, 188, 191, 193, 196, 208, 220, 223, 225, 228, 240, 256,
-        416, 448, 480,
+        0,   1,   4,   16,  24,  32,  40,  48,  56,  156, 159, 161, 164, 176,
+        188, 191, 193, 196, 208, 220, 223, 225, 228, 240, 256, 416, 448, 480,
     };
     uint64_t len = random_chance(g, 2) ? ONE_OF(g, lengths) : random_below(g, MAX_SECRET + 1);
     return is_words_length(len) ? len + 1 : len;
@@ -127,10 +130,11 @@ static uint64_t wrong_words_length(generator *g)
 static uint64_t wrong_way(generator *g)
 {
     static const uint64_t numbers[] = {
-        0, 4, 5, 255, 256, 257, 258, 259, 0x10001, 0x100000001, 0x100000002, 0x100000003, 0x8000000000000001,
-        UINT64_MAX, UINT64_MAX - 2,
+        0, 4, 5, 255, 256, 257, 258, 259, 0x10001, 0x100000001, 0x100000002, 0x100000003,
+        0x8000000000000001, UINT64_MAX, UINT64_MAX - 2,
     };
-    uint64_t number = random_chance(g, 2) ? ONE_OF(g, numbers) : random_number(g) >> random_below(g, 60);
+    uint64_t number =
+        random_chance(g, 2) ? ONE_OF(g, numbers) : random_number(g) >> random_below(g, 60);
     return number >= 1 && number <= 3 ? number + 3 : number;
 }
 
@@ -143,7 +147,8 @@ static size_t wrong_block_length(generator *g)
 
 static size_t wrong_output_length(generator *g, size_t right)
 {
-    static const uint64_t lengths[] = {0, 1, 4, 15, 16, 17, 32, 40, 56, 60, 92, 160, 192, 224, 240, 336, 368};
+    static const uint64_t lengths[] = {0,  1,  4,   15,  16,  17,  32,  40, 56,
+                                       60, 92, 160, 192, 224, 240, 336, 368};
     static const uint64_t steps[] = {1, 4, 16, 64};
     uint64_t step = ONE_OF(g, steps);
     size_t len;
@@ -206,7 +211,8 @@ static void make_record(generator *g, const uint8_t *entry, uint8_t *record)
     unsigned replicates = reference_replicates(entry);
     memset(record, 0, RECORD_LENGTH);
     memcpy(record, entry, 4);
-    reference_store_word(record + 4, (uint32_t)random_between(g, 1, random_chance(g, 8) ? UINT32_MAX : 500));
+    reference_store_word(record + 4,
+                         (uint32_t)random_between(g, 1, random_chance(g, 8) ? UINT32_MAX : 500));
     record[8] = (uint8_t)random_between(g, random_chance(g, 4) ? replicates : 1, replicates);
     make_plot(g, record);
 }
@@ -252,7 +258,8 @@ static void longest_shape(generator *g, book_shape *shape)
     shape->counts[4] = rest;
 }
 
-/* The least number of sheets: one is needed for a page, and where something of a sheet is to be damaged. */
+/* The least number of sheets: one is needed for a page, and where something of a sheet is to be
+ * damaged. */
 static size_t least_sheets(call_kind kind, unsigned damages)
 {
     if (kind == CALL_PAGE)
@@ -284,7 +291,8 @@ static void choose_shape(generator *g, call_kind kind, unsigned damages, book_sh
         shape->counts[random_below(g, shape->sheets)] = random_chance(g, 50) ? MAX_RECORDS + 1 : 0;
 }
 
-/* Half in reserve; or row or column beyond the last, where the other is in the field, 0 or beyond too. */
+/* Half in reserve; or row or column beyond the last, where the other is in the field, 0 or beyond
+ * too. */
 static void damage_plot(generator *g, uint8_t *record)
 {
     size_t row = field_number(g, MAX_ROW), column = field_number(g, MAX_COLUMN);
@@ -368,7 +376,8 @@ static size_t damage_length(generator *g, uint8_t *book, size_t len)
     switch (random_below(g, 4)) {
     case 0:
         if (sheets_of(book) > 0) {
-            store_half(entry_at(book, random_below(g, sheets_of(book))) + 4, random_between(g, 1, MAX_RECORDS));
+            store_half(entry_at(book, random_below(g, sheets_of(book))) + 4,
+                       random_between(g, 1, MAX_RECORDS));
             return len;
         }
         /* fall through */
@@ -400,7 +409,8 @@ static size_t damage_contents_length(generator *g, uint8_t *book, size_t len)
     size_t contents_end = contents_length(book);
     size_t too_many = (len - HEAD_LENGTH) / ENTRY_LENGTH + 1;
     if (len <= MAX_BOOK_LENGTH && contents_end > HEAD_LENGTH && random_chance(g, 2)) {
-        size_t cut = random_chance(g, 4) ? contents_end - 1 : random_between(g, HEAD_LENGTH, contents_end - 1);
+        size_t cut = random_chance(g, 4) ? contents_end - 1
+                                         : random_between(g, HEAD_LENGTH, contents_end - 1);
         return cut < len ? cut : len;
     }
     store_half(book + 2, random_between(g, too_many, too_many + 2));
@@ -471,11 +481,12 @@ static void make_note(generator *g, unsigned damages, test_case *c)
 
 /* Pages. */
 
-/* A sheet index that a book of so many sheets does not have, often one that it would have in fewer bits. 24 times the fifth
- * base is 0 in 64 bits. */
+/* A sheet index that a book of so many sheets does not have, often one that it would have in fewer
+ * bits. 24 times the fifth base is 0 in 64 bits. */
 static uint64_t wrong_sheet(generator *g, uint64_t sheets)
 {
-    static const uint64_t bases[] = {0x40, 0x100, 0x10000, 0x100000000, 0x2000000000000000, 0x8000000000000000};
+    static const uint64_t bases[] = {
+        0x40, 0x100, 0x10000, 0x100000000, 0x2000000000000000, 0x8000000000000000};
     switch (random_below(g, 5)) {
     case 0: return sheets;
     case 1: return sheets + random_below(g, 70);
@@ -601,7 +612,8 @@ void make_random_case(generator *g, call_kind kind, test_case *c)
     call_input *in = &c->in;
     make_case(g, kind, 0, c);
     if (kind != CALL_PAGE && random_chance(g, 8))
-        in->secret_len = kind == CALL_CONSTANTS ? random_number(g) : random_below(g, MAX_SECRET + 1);
+        in->secret_len =
+            kind == CALL_CONSTANTS ? random_number(g) : random_below(g, MAX_SECRET + 1);
     if (kind != CALL_PAGE && random_chance(g, 8))
         in->way = random_below(g, 6);
     if (kind == CALL_PAGE)

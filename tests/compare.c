@@ -57,10 +57,10 @@ void fail(const char *format, ...)
 void describe_call(const call_input *in, char *text, size_t len)
 {
     snprintf(text, len,
-             "%s (%s %" PRIu64 " bytes, way %" PRIu64 ", counter block %zu bytes, input %zu bytes, sheet %" PRIu64
-             ", output %zu bytes)",
-             call_name(in->kind), call_has_words(in->kind) ? "words" : "key", in->secret_len, in->way, in->counter_len,
-             in->input_len, in->sheet, in->out_len);
+             "%s (%s %" PRIu64 " bytes, way %" PRIu64
+             ", counter block %zu bytes, input %zu bytes, sheet %" PRIu64 ", output %zu bytes)",
+             call_name(in->kind), call_has_words(in->kind) ? "words" : "key", in->secret_len,
+             in->way, in->counter_len, in->input_len, in->sheet, in->out_len);
 }
 
 void fail_call(const call_input *in, const char *what, const char *how, ...)
@@ -127,7 +127,8 @@ static void compare_output(const call_input *in, const char *what)
         return;
     if (at < FENCE || at >= FENCE + in->out_len)
         fail_call(in, what, "a byte beside the output was changed");
-    fail_call(in, what, "output byte %zu is %02x, expected %02x", at - FENCE, output[at], expected_output[at]);
+    fail_call(in, what, "output byte %zu is %02x, expected %02x", at - FENCE, output[at],
+              expected_output[at]);
 }
 
 /* Makes the call that expect_call was asked about. */

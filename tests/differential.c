@@ -15,11 +15,12 @@
 #include <string.h>
 
 enum {
-    BLOCK_CASES = 100000,   /* for each key length */
-    ROUND_TRIPS = 300,      /* of books and of notes, for each number of words */
-    INPUT_CASES = 200000,   /* for each call */
-    LEAST_ANSWERS = 1000,   /* for each check of each call, of notes in which the number wraps, of pages after the first */
-    PAIR_TRIES = 2000       /* to make two checks fail together */
+    BLOCK_CASES = 100000, /* for each key length */
+    ROUND_TRIPS = 300, /* of books and of notes, for each number of words */
+    INPUT_CASES = 200000, /* for each call */
+    /* for each check of each call, of notes in which the number wraps, of pages after the first */
+    LEAST_ANSWERS = 1000,
+    PAIR_TRIES = 2000 /* to make two checks fail together */
 };
 
 /* What the specification prints: first the reference is held against it, then
@@ -47,7 +48,8 @@ static void check_reference(void)
         size_t len = printed_words(v, bytes);
         reference_expand_key(&words, v->key, v->key_len);
         if (reference_store_words(stored, &words) != v->words || memcmp(stored, bytes, len) != 0)
-            fail("the reference's expanded key is not the printed one, key of %zu bytes", v->key_len);
+            fail("the reference's expanded key is not the printed one, key of %zu bytes",
+                 v->key_len);
         check_reference_blocks(v, &words);
         memset(&words, 0, sizeof words);
         reference_load_words(&words, bytes, len);
@@ -77,19 +79,23 @@ static void check_vectors(void)
 {
     for (size_t i = 0; i < KEY_LENGTHS; i++)
         check_vector(&paper_vectors[i]);
-    printf("vectors: constants, expanded key, encryption and decryption as printed, %d key lengths, %d ways\n",
+    printf("vectors: constants, expanded key, encryption and decryption as printed, %d key "
+           "lengths, %d ways\n",
            KEY_LENGTHS, WAYS);
 }
 
-/* The library against the reference by each way, and then what it wrote against the bytes written down. */
+/* The library against the reference by each way, and then what it wrote against the bytes written
+ * down. */
 static void check_note_vector(const paper_vector *key, const note_vector *v, const uint8_t *sealed)
 {
     uint8_t words[224];
     size_t words_len = printed_words(key, words), len = strlen(v->note);
-    call_input in = {CALL_CRYPT_NOTE, words, words_len, 1, (const uint8_t *)v->note, len, len, v->counter, 16};
+    const uint8_t *note = (const uint8_t *)v->note;
+    call_input in = {CALL_CRYPT_NOTE, words, words_len, 1, note, len, len, v->counter, 16};
     compare_ways(&in, len, "note vector");
     if (memcmp(last_output(), sealed, len) != 0)
-        fail_call(&in, "note vector", "library and reference agree on other bytes than those written down");
+        fail_call(&in, "note vector",
+                  "library and reference agree on other bytes than those written down");
     in.input = sealed;
     compare_ways(&in, len, "note vector");
     if (memcmp(last_output(), v->note, len) != 0)
@@ -101,8 +107,8 @@ static void check_note_vectors(void)
     for (size_t i = 0; i < NOTE_VECTORS; i++)
         for (size_t k = 0; k < KEY_LENGTHS; k++)
             check_note_vector(&paper_vectors[k], &note_vectors[i], note_vectors[i].sealed[k]);
-    printf("note vectors: %d notes sealed as written down and opened, %d key lengths, %d ways\n", NOTE_VECTORS,
-           KEY_LENGTHS, WAYS);
+    printf("note vectors: %d notes sealed as written down and opened, %d key lengths, %d ways\n",
+           NOTE_VECTORS, KEY_LENGTHS, WAYS);
 }
 
 /* Random keys and blocks. */
@@ -145,14 +151,16 @@ static void compare_note(size_t words_len, size_t len, uint32_t number)
     make_case_of_length(&random_source, CALL_CRYPT_NOTE, words_len, &c);
     random_fill(&random_source, c.input, len);
     c.in.input_len = c.in.out_len = len;
-    c.counter[COUNTER_PREFIX_LENGTH - 1] = 0xff; /* which a carry into the prefix would change, and the byte before it */
+    /* A carry into the prefix would change this byte, and the byte before it. */
+    c.counter[COUNTER_PREFIX_LENGTH - 1] = 0xff;
     reference_store_word(c.counter + COUNTER_PREFIX_LENGTH, number);
     compare_ways(&c.in, len, "note");
 }
 
 static void compare_notes(void)
 {
-    /* Carries to each byte of the number; and four blocks that end at ffffffff, or pass it after three, two and one. */
+    /* Carries to each byte of the number; and four blocks that end at ffffffff, or pass it after
+     * three, two and one. */
     static const uint32_t numbers[] = {
         0, 0xff, 0xffff, 0xffffff, 0x7fffffff, 0xfffffffc, 0xfffffffd, 0xfffffffe, 0xffffffff,
     };
@@ -165,8 +173,9 @@ static void compare_notes(void)
         compare_note(words_len, MAX_NOTE_LENGTH, 0xfffffc00); /* the last block has ffffffff */
         compare_note(words_len, MAX_NOTE_LENGTH, 0xfffffc01); /* the last block has 0 */
     }
-    printf("notes: %d of each length up to %d bytes and 3 of the greatest, %d numbers of words, %d ways\n", NUMBERS,
-           LENGTHS - 1, KEY_LENGTHS, WAYS);
+    printf("notes: %d of each length up to %d bytes and 3 of the greatest, %d numbers of words, %d "
+           "ways\n",
+           NUMBERS, LENGTHS - 1, KEY_LENGTHS, WAYS);
 }
 
 /* Opened after sealed and sealed after opened, by every pair of ways. */
@@ -195,12 +204,14 @@ static void round_trip(const test_case *c, uint64_t way, uint64_t back_way)
     in.input = sealed;
     call_into(&in, opened, "round trip");
     if (memcmp(opened, c->input, len) != 0)
-        fail_call(&in, "round trip", "way %" PRIu64 " does not decrypt what way %" PRIu64 " encrypted", back_way, way);
+        fail_call(&in, "round trip",
+                  "way %" PRIu64 " does not decrypt what way %" PRIu64 " encrypted", back_way, way);
     in.kind = c->in.kind;
     in.input = opened;
     call_into(&in, resealed, "round trip");
     if (memcmp(resealed, sealed, len) != 0)
-        fail_call(&in, "round trip", "way %" PRIu64 " does not encrypt to the bytes of way %" PRIu64, back_way, way);
+        fail_call(&in, "round trip",
+                  "way %" PRIu64 " does not encrypt to the bytes of way %" PRIu64, back_way, way);
 }
 
 static void compare_round_trips(call_kind kind, const char *what, const char *parts)
@@ -214,13 +225,15 @@ static void compare_round_trips(call_kind kind, const char *what, const char *pa
             for (uint64_t pair = 0; pair < WAYS * WAYS; pair++)
                 round_trip(&c, 1 + pair / WAYS, 1 + pair % WAYS);
         }
-    printf("round trips: %" PRIu64 " %s (%" PRIu64 " %s) encrypted, decrypted, encrypted by %d pairs of ways\n",
+    printf("round trips: %" PRIu64 " %s (%" PRIu64
+           " %s) encrypted, decrypted, encrypted by %d pairs of ways\n",
            KEY_LENGTHS * trips, what, count, parts, WAYS * WAYS);
 }
 
 /* Valid, damaged and random inputs of every call. */
 
-static uint64_t answers[CALLS][LAST_CHECK + 1]; /* how often each check was the answer; 0: accepted */
+/* How often each check was the answer; 0: accepted. */
+static uint64_t answers[CALLS][LAST_CHECK + 1];
 /* How often a check was the answer while a later one failed too. A pair that
  * an earlier check hides does not count: it would say nothing about the order
  * of its two. */
@@ -235,10 +248,12 @@ static int wraps_after_ff(const call_input *in)
 {
     uint64_t blocks = (in->input_len + REFERENCE_BLOCK - 1) / REFERENCE_BLOCK;
     uint64_t number = reference_load_word(in->counter + COUNTER_PREFIX_LENGTH);
-    return number + blocks > (uint64_t)UINT32_MAX + 1 && in->counter[COUNTER_PREFIX_LENGTH - 1] == 0xff;
+    return number + blocks > (uint64_t)UINT32_MAX + 1 &&
+           in->counter[COUNTER_PREFIX_LENGTH - 1] == 0xff;
 }
 
-/* The header's own function: the length that the call wants, or 0 where the book has no such sheet; none has more than 64. */
+/* The header's own function: the length that the call wants, or 0 where the book has no such sheet;
+ * none has more than 64. */
 static void check_page_length(const call_input *in)
 {
     size_t len = planbook_page_length(in->input, in->input_len, in->sheet);
@@ -317,7 +332,8 @@ static void try_inputs(call_kind kind)
     uint64_t cases = scaled(INPUT_CASES);
     for (int a = 1; a <= LAST_CHECK; a++)
         for (int b = 1; b <= LAST_CHECK; b++)
-            if ((in_order(kind, a, b) && why_impossible(kind, a, b) == NULL) || (a == b && in_call(kind, a)))
+            if ((in_order(kind, a, b) && why_impossible(kind, a, b) == NULL) ||
+                (a == b && in_call(kind, a)))
                 try_pair(kind, a, b);
     for (uint64_t i = 0; i < cases; i++) {
         uint64_t sort = i % 10;
@@ -340,8 +356,8 @@ static void try_inputs(call_kind kind)
 
 static void report_answers(call_kind kind)
 {
-    printf("inputs, %s: %" PRIu64 " (%" PRIu64 " accepted; refused by check", call_name(kind), inputs[kind],
-           answers[kind][0]);
+    printf("inputs, %s: %" PRIu64 " (%" PRIu64 " accepted; refused by check", call_name(kind),
+           inputs[kind], answers[kind][0]);
     for (int check = 1; check <= LAST_CHECK; check++)
         if (in_call(kind, check))
             printf(" %d: %" PRIu64, check, answers[kind][check]);
@@ -350,8 +366,8 @@ static void report_answers(call_kind kind)
         fail("%s: only %" PRIu64 " inputs", call_name(kind), inputs[kind]);
     for (int check = 0; check <= LAST_CHECK; check++)
         if ((check == 0 || in_call(kind, check)) && answers[kind][check] < scaled(LEAST_ANSWERS))
-            fail("%s: check %d was the answer only %" PRIu64 " times, %" PRIu64 " are due", call_name(kind), check,
-                 answers[kind][check], scaled(LEAST_ANSWERS));
+            fail("%s: check %d was the answer only %" PRIu64 " times, %" PRIu64 " are due",
+                 call_name(kind), check, answers[kind][check], scaled(LEAST_ANSWERS));
 }
 
 static void report_pairs(call_kind kind)
@@ -363,8 +379,8 @@ static void report_pairs(call_kind kind)
             if (!in_order(kind, a, b))
                 continue;
             if ((pairs[kind][a][b] > 0) == (why_impossible(kind, a, b) != NULL))
-                fail("%s: checks %d and %d failed together %" PRIu64 " times", call_name(kind), a, b,
-                     pairs[kind][a][b]);
+                fail("%s: checks %d and %d failed together %" PRIu64 " times", call_name(kind), a,
+                     b, pairs[kind][a][b]);
             if (pairs[kind][a][b] > 0) {
                 printf(" %d+%d", a, b);
                 met++;
@@ -374,7 +390,8 @@ static void report_pairs(call_kind kind)
     for (int a = 1; a <= LAST_CHECK; a++)
         for (int b = 1; b <= LAST_CHECK; b++)
             if (in_order(kind, a, b) && why_impossible(kind, a, b) != NULL)
-                printf("pairs, %s: %d+%d impossible: %s\n", call_name(kind), a, b, why_impossible(kind, a, b));
+                printf("pairs, %s: %d+%d impossible: %s\n", call_name(kind), a, b,
+                       why_impossible(kind, a, b));
 }
 
 static void compare_inputs(void)
@@ -384,18 +401,23 @@ static void compare_inputs(void)
         report_answers((call_kind)kind);
         report_pairs((call_kind)kind);
     }
-    printf("pairs, any call: 3 or 12 with 5 to 11 or 13 impossible: block and note calls have no book, book calls no block\n");
-    printf("pairs, any call: 1 with 3, 5 to 12 or 14 impossible: a call with a key has no block, book, note or words\n");
-    printf("pairs, any call: 1, 2 or 14 with 13 impossible: a page has neither key nor words nor way\n");
+    printf("pairs, any call: 3 or 12 with 5 to 11 or 13 impossible: block and note calls have no "
+           "book, book calls no block\n");
+    printf("pairs, any call: 1 with 3, 5 to 12 or 14 impossible: a call with a key has no block, "
+           "book, note or words\n");
+    printf("pairs, any call: 1, 2 or 14 with 13 impossible: a page has neither key nor words nor "
+           "way\n");
     printf("long books: %" PRIu64 " encrypted, %" PRIu64 " decrypted, %" PRIu64
            " for a page, of 10,000 bytes or more; longest accepted %zu\n",
-           long_books[CALL_ENCRYPT_BOOK], long_books[CALL_DECRYPT_BOOK], long_books[CALL_PAGE], longest_accepted);
+           long_books[CALL_ENCRYPT_BOOK], long_books[CALL_DECRYPT_BOOK], long_books[CALL_PAGE],
+           longest_accepted);
     printf("notes whose number wraps after a byte ff: %" PRIu64 " accepted\n", wraps);
     if (wraps < scaled(LEAST_ANSWERS))
         fail("only %" PRIu64 " notes wrap, %" PRIu64 " are due", wraps, scaled(LEAST_ANSWERS));
     printf("pages of a sheet after the first: %" PRIu64 " accepted\n", later_sheets);
     if (later_sheets < scaled(LEAST_ANSWERS))
-        fail("only %" PRIu64 " such pages, %" PRIu64 " are due", later_sheets, scaled(LEAST_ANSWERS));
+        fail("only %" PRIu64 " such pages, %" PRIu64 " are due", later_sheets,
+             scaled(LEAST_ANSWERS));
 }
 
 int main(int argc, char **argv)

@@ -37,7 +37,8 @@ static void expect_page(size_t sheet, size_t lines, uint64_t answer, const char 
     tried_pages++;
 }
 
-/* A book that is refused for what it is has no page either. One that is accepted has a page of each sheet, and no more. */
+/* A book that is refused for what it is has no page either. One that is accepted has a page of each
+ * sheet, and no more. */
 static void expect_pages(uint64_t answer, const char *what)
 {
     size_t sheets = sheets_of(book);
@@ -83,7 +84,8 @@ static void check_lengths(void)
     new_book(2, 3);
     for (size_t i = 0; i < sizeof wrong_words / sizeof wrong_words[0]; i++) {
         expect_lengths(wrong_words[i], book_len, refusal(14), "words of a wrong length");
-        expect_lengths(wrong_words[i], book_len - 1, refusal(14), "words of a wrong length, output one byte short");
+        expect_lengths(wrong_words[i], book_len - 1, refusal(14),
+                       "words of a wrong length, output one byte short");
     }
     for (uint64_t words_len = 160; words_len <= 224; words_len += 32)
         expect_lengths(words_len, book_len, 6, "words of a permitted length");
@@ -183,7 +185,8 @@ static void check_entries(void)
     expect(refusal(9), "falling trials");
 }
 
-/* Every sheet says that it has 1,024 records: from the fourth on, more in all than a book can hold. */
+/* Every sheet says that it has 1,024 records: from the fourth on, more in all than a book can
+ * hold. */
 static void new_overfull_book(size_t sheets, size_t len)
 {
     new_book(sheets, 1);
@@ -194,10 +197,12 @@ static void new_overfull_book(size_t sheets, size_t len)
     book_len = len;
 }
 
-/* All entries are judged before the length is: after such counts too, a broken entry is check 9's and not check 10's. */
+/* All entries are judged before the length is: after such counts too, a broken entry is check 9's
+ * and not check 10's. */
 static void check_overfull_contents(size_t sheets, size_t len)
 {
-    static const uint8_t broken[][2] = {{4, 0}, {5, 1}, {6, 9}, {7, 0x80}}; /* a byte of the entry, and its value */
+    /* a byte of the entry, and its value */
+    static const uint8_t broken[][2] = {{4, 0}, {5, 1}, {6, 9}, {7, 0x80}};
     size_t last = sheets - 1;
     new_overfull_book(sheets, len);
     expect(refusal(10), "more records than a book can hold");
@@ -238,15 +243,17 @@ static void expect_plot(uint8_t *at, uint64_t words_len, size_t row, size_t colu
 {
     char what[80];
     reference_store_word(at + 9, (uint32_t)(row << 16 | column)); /* bytes 9 to 12 */
-    snprintf(what, sizeof what, "row %zu and column %zu in the record at byte %td", row, column, at - book);
+    snprintf(what, sizeof what, "row %zu and column %zu in the record at byte %td", row, column,
+             at - book);
     expect_lengths(words_len, book_len, answer, what);
 }
 
 /* Row, column, and the check that answers. */
 static const uint16_t plots[][3] = {
-    {0, 0, 0}, {1, 1, 0}, {999, 999, 0}, {1, 999, 0}, {999, 1, 0}, {256, 1, 0}, {1, 256, 0},
-    {0, 1, 11}, {1, 0, 11}, {0, 999, 11}, {999, 0, 11}, {0, 256, 11}, {256, 0, 11}, {0, 1000, 11}, {1000, 0, 11},
-    {1, 1000, 11}, {1000, 1, 11}, {999, 1000, 11}, {1000, 999, 11}, {1000, 1000, 11},
+    {0, 0, 0},     {1, 1, 0},     {999, 999, 0},      {1, 999, 0},     {999, 1, 0},
+    {256, 1, 0},   {1, 256, 0},   {0, 1, 11},         {1, 0, 11},      {0, 999, 11},
+    {999, 0, 11},  {0, 256, 11},  {256, 0, 11},       {0, 1000, 11},   {1000, 0, 11},
+    {1, 1000, 11}, {1000, 1, 11}, {999, 1000, 11},    {1000, 999, 11}, {1000, 1000, 11},
     {1, 1025, 11}, {1025, 1, 11}, {65535, 65535, 11},
 };
 
@@ -257,11 +264,13 @@ static void check_plots(size_t sheets, size_t count)
     for (size_t j = 0; j < records; j++)
         for (size_t i = 0; i < sizeof plots / sizeof plots[0]; i++) {
             new_book(sheets, count);
-            expect_plot(record(sheets, j), 224, plots[i][0], plots[i][1], plots[i][2] == 0 ? records : refusal(plots[i][2]));
+            expect_plot(record(sheets, j), 224, plots[i][0], plots[i][1],
+                        plots[i][2] == 0 ? records : refusal(plots[i][2]));
         }
 }
 
-/* Every row beside some columns, and every column beside the same rows; a shorter run leaves numbers out. */
+/* Every row beside some columns, and every column beside the same rows; a shorter run leaves
+ * numbers out. */
 static void check_every_row_and_column(void)
 {
     static const struct {
@@ -277,7 +286,8 @@ static void check_every_row_and_column(void)
         }
 }
 
-/* A book of three sheets of two records, with these numbers of replicates in its entries; every replicate is 1. */
+/* A book of three sheets of two records, with these numbers of replicates in its entries; every
+ * replicate is 1. */
 static void new_book_of_replicates(uint8_t first, uint8_t second, uint8_t third)
 {
     new_book(3, 2);
@@ -303,7 +313,8 @@ static void check_replicates(void)
     for (unsigned number = 0; number <= 8; number++) {
         new_book_of_replicates((uint8_t)number, (uint8_t)number, (uint8_t)number);
         for (unsigned replicate = 0; replicate < 256; replicate++)
-            expect_replicate(5, replicate, replicate >= 1 && replicate <= greatest[number] ? 6 : refusal(11),
+            expect_replicate(5, replicate,
+                             replicate >= 1 && replicate <= greatest[number] ? 6 : refusal(11),
                              "replicate");
     }
 }
@@ -337,7 +348,8 @@ static void change_book(call_kind kind, const uint8_t *from, uint8_t *to)
     memcpy(to, last_output(), book_len);
 }
 
-/* 0 and 4 mean the same, and the books are different: neither sealing nor opening makes one of the other. */
+/* 0 and 4 mean the same, and the books are different: neither sealing nor opening makes one of the
+ * other. */
 static void check_zero_and_four(void)
 {
     static uint8_t sealed[2][MAX_INPUT], opened[MAX_INPUT];
@@ -376,10 +388,12 @@ void check_edges(void)
     check_replicates();
     check_sheets_replicates();
     check_zero_and_four();
-    printf("edges: %u books with a stated answer, each by %d ways, and %u pages of them\n", tried, WAYS, tried_pages);
+    printf("edges: %u books with a stated answer, each by %d ways, and %u pages of them\n", tried,
+           WAYS, tried_pages);
 }
 
-/* What a note's call is given, and the check that answers. Where the way is 1, each way must answer so. */
+/* What a note's call is given, and the check that answers. Where the way is 1, each way must answer
+ * so. */
 typedef struct {
     uint64_t words_len, way;
     size_t counter_len, note_len, out_len;
@@ -449,20 +463,23 @@ void check_note_edges(void)
     for (size_t i = 0; i < count; i++) {
         const note_edge *e = &note_edges[i];
         uint64_t answer = e->check == 0 ? e->note_len : refusal(e->check);
-        call_input in = {CALL_CRYPT_NOTE, words, e->words_len, e->way, note, e->note_len, e->out_len, counter,
-                         e->counter_len};
+        call_input in = {CALL_CRYPT_NOTE, words, e->words_len, e->way, note, e->note_len,
+                         e->out_len, counter, e->counter_len};
         if (e->way == 1)
             compare_ways(&in, answer, "note");
         else if (compare_call(&in, "note").answer != answer)
             fail_call(&in, "note", "the reference does not refuse it by check %d", e->check);
     }
-    printf("note edges: %zu notes with a stated answer, by %d ways where the way is right\n", count, WAYS);
+    printf("note edges: %zu notes with a stated answer, by %d ways where the way is right\n", count,
+           WAYS);
 }
 
 static unsigned expect_ways(call_input in, uint64_t accepted)
 {
     static const uint64_t refused[] = {
-        0, 4, 257, 258, 259, 0x10001, 0x100000001, 0x100000002, 0x100000003, 0x8000000000000001, UINT64_MAX,
+        0,          4,           257,         258,         259,
+        0x10001,    0x100000001, 0x100000002, 0x100000003, 0x8000000000000001,
+        UINT64_MAX,
     };
     size_t count = sizeof refused / sizeof refused[0];
     for (in.way = 1; in.way <= WAYS; in.way++)
@@ -479,8 +496,8 @@ static unsigned expect_ways(call_input in, uint64_t accepted)
 static unsigned expect_key_lengths(void)
 {
     static const uint64_t refused[] = {
-        0, 8, 15, 17, 128, 192, 256, 0x110, 0x10010, 0x100000010, 0x100000018, 0x100000020, 0x8000000000000010,
-        UINT64_MAX - 15,
+        0, 8, 15, 17, 128, 192, 256, 0x110, 0x10010, 0x100000010, 0x100000018, 0x100000020,
+        0x8000000000000010, UINT64_MAX - 15,
     };
     size_t count = sizeof refused / sizeof refused[0];
     call_input in = {CALL_CONSTANTS, NULL, 16, 0, NULL, 0, 0};
@@ -510,6 +527,6 @@ void check_wide_numbers(void)
     whole.kind = CALL_DECRYPT_BOOK;
     book[0] = SEALED_BOOK;
     expect_ways(whole, 0);
-    printf("64-bit numbers: %u ways refused by six calls, %u key lengths refused for constants\n", ways,
-           expect_key_lengths());
+    printf("64-bit numbers: %u ways refused by six calls, %u key lengths refused for constants\n",
+           ways, expect_key_lengths());
 }

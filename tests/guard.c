@@ -94,8 +94,8 @@ static void compare_room(const call_input *in, const fenced *out, const uint8_t 
 {
     for (size_t i = 0; i < out->room_len; i++)
         if (out->room[i] != expected[i])
-            fail_call(in, "fenced", "byte %td of the output is %02x, expected %02x", out->room + i - out->bytes,
-                      out->room[i], expected[i]);
+            fail_call(in, "fenced", "byte %td of the output is %02x, expected %02x",
+                      out->room + i - out->bytes, out->room[i], expected[i]);
 }
 
 static verdict fenced_call(const call_input *in, placement where, int output_access)
@@ -186,14 +186,16 @@ static void guard_long_notes(void)
         }
 }
 
-/* The longest pages, of the longest book and of the longest sheet alone; and with a sheet index whose entry would be far away. */
+/* The longest pages, of the longest book and of the longest sheet alone; and with a sheet index
+ * whose entry would be far away. */
 static void guard_long_pages(void)
 {
     static const book_shape shapes[] = {{5, {1, 1015, 1024, 1024, 1024}}, {1, {MAX_RECORDS}}};
     static test_case c;
     for (size_t i = 0; i < sizeof shapes / sizeof shapes[0]; i++) {
         size_t len = make_clear_book(&random_source, &shapes[i], c.input);
-        c.in = (call_input){CALL_PAGE, NULL, 0, 0, c.input, len, MAX_PAGE_LENGTH, NULL, 0, shapes[i].sheets - 1};
+        c.in = (call_input){CALL_PAGE, NULL, 0, 0, c.input, len, MAX_PAGE_LENGTH};
+        c.in.sheet = shapes[i].sheets - 1;
         guard_case(&c);
         c.in.sheet = shapes[i].sheets;
         guard_case(&c);
@@ -208,7 +210,8 @@ static void guard_calls(void)
     uint64_t cases = scaled(GUARD_CASES);
     for (int kind = 0; kind < CALLS; kind++)
         for (uint64_t i = 0; i < cases; i++) {
-            unsigned damages = checks_of((call_kind)kind) & 1u << random_between(&random_source, 1, LAST_CHECK);
+            unsigned damages =
+                checks_of((call_kind)kind) & 1u << random_between(&random_source, 1, LAST_CHECK);
             if (random_chance(&random_source, 8))
                 make_random_case(&random_source, (call_kind)kind, &c);
             else
@@ -227,7 +230,8 @@ static void guard_calls(void)
     }
     guard_long_notes();
     guard_long_pages();
-    printf("guard: %" PRIu64 " accepted and %" PRIu64 " refused calls between guard pages\n", accepted, refused);
+    printf("guard: %" PRIu64 " accepted and %" PRIu64 " refused calls between guard pages\n",
+           accepted, refused);
 }
 
 /* Answers that are stated here, for memory that the reference is not asked about. */
@@ -245,40 +249,55 @@ static void expect(const call_input *in, uint8_t *out, int check, const char *wh
 
 static void null_pointers(void)
 {
-    uint8_t out[368] = {0}, key[16] = {0}, words[160] = {0}, block[16] = {0}, book[4] = {0, 0, 0, 0};
+    uint8_t out[368] = {0}, key[16] = {0}, words[160] = {0}, block[16] = {0},
+            book[4] = {0, 0, 0, 0};
     stated = 0;
     expect(&(call_input){CALL_CONSTANTS, NULL, 16, 0, NULL, 0, 0}, NULL, 4, "null output");
     expect(&(call_input){CALL_CONSTANTS, NULL, 17, 0, NULL, 0, 0}, NULL, 1, "null output");
     for (uint64_t way = 1; way <= WAYS; way++) {
         expect(&(call_input){CALL_EXPAND_KEY, NULL, 0, way, NULL, 0, 160}, out, 1, "null key");
         expect(&(call_input){CALL_EXPAND_KEY, key, 16, way, NULL, 0, 0}, NULL, 4, "null output");
-        expect(&(call_input){CALL_EXPAND_KEY, NULL, 0, way, NULL, 0, 0}, NULL, 1, "null key and output");
+        expect(&(call_input){CALL_EXPAND_KEY, NULL, 0, way, NULL, 0, 0}, NULL, 1,
+               "null key and output");
         for (int kind = CALL_ENCRYPT_BLOCK; kind <= CALL_DECRYPT_BLOCK; kind++) {
-            expect(&(call_input){(call_kind)kind, NULL, 0, way, block, 16, 16}, out, 14, "null words");
-            expect(&(call_input){(call_kind)kind, words, 160, way, NULL, 0, 16}, out, 3, "null block");
-            expect(&(call_input){(call_kind)kind, words, 160, way, block, 16, 0}, NULL, 4, "null output");
+            expect(&(call_input){(call_kind)kind, NULL, 0, way, block, 16, 16}, out, 14,
+                   "null words");
+            expect(&(call_input){(call_kind)kind, words, 160, way, NULL, 0, 16}, out, 3,
+                   "null block");
+            expect(&(call_input){(call_kind)kind, words, 160, way, block, 16, 0}, NULL, 4,
+                   "null output");
             expect(&(call_input){(call_kind)kind, NULL, 0, way, NULL, 0, 0}, NULL, 14, "all null");
         }
         for (int kind = CALL_ENCRYPT_BOOK; kind <= CALL_DECRYPT_BOOK; kind++) {
             book[0] = kind == CALL_ENCRYPT_BOOK ? CLEAR_BOOK : SEALED_BOOK;
             expect(&(call_input){(call_kind)kind, NULL, 0, way, book, 4, 4}, out, 14, "null words");
-            expect(&(call_input){(call_kind)kind, words, 160, way, NULL, 0, 4}, out, 4, "null book");
-            expect(&(call_input){(call_kind)kind, words, 160, way, book, 4, 0}, NULL, 4, "null output");
-            expect(&(call_input){(call_kind)kind, words, 160, way, NULL, 0, 0}, NULL, 5, "null book and output");
+            expect(&(call_input){(call_kind)kind, words, 160, way, NULL, 0, 4}, out, 4,
+                   "null book");
+            expect(&(call_input){(call_kind)kind, words, 160, way, book, 4, 0}, NULL, 4,
+                   "null output");
+            expect(&(call_input){(call_kind)kind, words, 160, way, NULL, 0, 0}, NULL, 5,
+                   "null book and output");
             expect(&(call_input){(call_kind)kind, NULL, 0, way, NULL, 0, 0}, NULL, 14, "all null");
         }
-        expect(&(call_input){CALL_CRYPT_NOTE, NULL, 0, way, block, 16, 16, block, 16}, out, 14, "null words");
-        expect(&(call_input){CALL_CRYPT_NOTE, words, 160, way, block, 16, 16, NULL, 0}, out, 3, "null counter block");
-        expect(&(call_input){CALL_CRYPT_NOTE, words, 160, way, NULL, 0, 16, block, 16}, out, 4, "null note");
-        expect(&(call_input){CALL_CRYPT_NOTE, words, 160, way, block, 16, 0, block, 16}, NULL, 4, "null output");
-        expect(&(call_input){CALL_CRYPT_NOTE, words, 160, way, NULL, 0, 0, block, 16}, NULL, 0, "null note and output");
-        expect(&(call_input){CALL_CRYPT_NOTE, NULL, 0, way, NULL, 0, 0, NULL, 0}, NULL, 14, "all null");
+        expect(&(call_input){CALL_CRYPT_NOTE, NULL, 0, way, block, 16, 16, block, 16}, out, 14,
+               "null words");
+        expect(&(call_input){CALL_CRYPT_NOTE, words, 160, way, block, 16, 16, NULL, 0}, out, 3,
+               "null counter block");
+        expect(&(call_input){CALL_CRYPT_NOTE, words, 160, way, NULL, 0, 16, block, 16}, out, 4,
+               "null note");
+        expect(&(call_input){CALL_CRYPT_NOTE, words, 160, way, block, 16, 0, block, 16}, NULL, 4,
+               "null output");
+        expect(&(call_input){CALL_CRYPT_NOTE, words, 160, way, NULL, 0, 0, block, 16}, NULL, 0,
+               "null note and output");
+        expect(&(call_input){CALL_CRYPT_NOTE, NULL, 0, way, NULL, 0, 0, NULL, 0}, NULL, 14,
+               "all null");
     }
     book[0] = CLEAR_BOOK;
     expect(&(call_input){CALL_PAGE, NULL, 0, 0, NULL, 0, 64}, out, 5, "null book");
     expect(&(call_input){CALL_PAGE, NULL, 0, 0, NULL, 0, 0}, NULL, 5, "null book and output");
     expect(&(call_input){CALL_PAGE, NULL, 0, 0, book, 4, 0}, NULL, 13, "null output");
-    expect(&(call_input){CALL_PAGE, NULL, 0, 0, one_record_book, sizeof one_record_book, 0}, NULL, 4, "null output");
+    expect(&(call_input){CALL_PAGE, NULL, 0, 0, one_record_book, sizeof one_record_book, 0}, NULL,
+           4, "null output");
     for (size_t i = 0; i < sizeof out; i++)
         if (out[i] != 0)
             fail("a call with a null pointer changed output byte %zu", i);
@@ -311,29 +330,42 @@ static void wide_lengths(void)
     expect(&(call_input){CALL_CONSTANTS, NULL, 16, 0, NULL, 0, wide + 240}, m, 4, "wide output");
     for (uint64_t way = 1; way <= WAYS; way++) {
         expect(&(call_input){CALL_EXPAND_KEY, m, wide + 16, way, NULL, 0, 160}, m, 1, "wide key");
-        expect(&(call_input){CALL_EXPAND_KEY, key, 16, way, NULL, 0, wide + 160}, m, 4, "wide output");
+        expect(&(call_input){CALL_EXPAND_KEY, key, 16, way, NULL, 0, wide + 160}, m, 4,
+               "wide output");
         for (int kind = CALL_ENCRYPT_BLOCK; kind <= CALL_DECRYPT_BLOCK; kind++) {
             expect_wide_words((call_input){(call_kind)kind, m, 0, way, block, 16, 16}, m, wide);
-            expect(&(call_input){(call_kind)kind, words, 160, way, m, wide + 16, 16}, m, 3, "wide block");
-            expect(&(call_input){(call_kind)kind, words, 160, way, block, 16, wide + 16}, m, 4, "wide output");
+            expect(&(call_input){(call_kind)kind, words, 160, way, m, wide + 16, 16}, m, 3,
+                   "wide block");
+            expect(&(call_input){(call_kind)kind, words, 160, way, block, 16, wide + 16}, m, 4,
+                   "wide output");
         }
         for (int kind = CALL_ENCRYPT_BOOK; kind <= CALL_DECRYPT_BOOK; kind++) {
             book[0] = kind == CALL_ENCRYPT_BOOK ? CLEAR_BOOK : SEALED_BOOK;
             expect_wide_words((call_input){(call_kind)kind, m, 0, way, book, 4, 4}, m, wide);
-            expect(&(call_input){(call_kind)kind, words, 160, way, book, 4, wide + 4}, m, 4, "wide output");
-            expect(&(call_input){(call_kind)kind, words, 160, way, m, wide + 4, 4}, m, 4, "wide book");
-            expect(&(call_input){(call_kind)kind, words, 160, way, m, wide + 4, wide + 4}, m, 5, "wide book and output");
+            expect(&(call_input){(call_kind)kind, words, 160, way, book, 4, wide + 4}, m, 4,
+                   "wide output");
+            expect(&(call_input){(call_kind)kind, words, 160, way, m, wide + 4, 4}, m, 4,
+                   "wide book");
+            expect(&(call_input){(call_kind)kind, words, 160, way, m, wide + 4, wide + 4}, m, 5,
+                   "wide book and output");
         }
-        expect_wide_words((call_input){CALL_CRYPT_NOTE, m, 0, way, block, 16, 16, block, 16}, m, wide);
-        expect(&(call_input){CALL_CRYPT_NOTE, words, 160, way, block, 16, 16, m, wide + 16}, m, 3, "wide counter block");
-        expect(&(call_input){CALL_CRYPT_NOTE, words, 160, way, block, 16, wide + 16, block, 16}, m, 4, "wide output");
-        expect(&(call_input){CALL_CRYPT_NOTE, words, 160, way, m, wide + 16, 16, block, 16}, m, 4, "wide note");
-        expect(&(call_input){CALL_CRYPT_NOTE, words, 160, way, m, wide + 16, wide + 16, block, 16}, m, 12,
-               "wide note and output");
+        expect_wide_words((call_input){CALL_CRYPT_NOTE, m, 0, way, block, 16, 16, block, 16}, m,
+                          wide);
+        expect(&(call_input){CALL_CRYPT_NOTE, words, 160, way, block, 16, 16, m, wide + 16}, m, 3,
+               "wide counter block");
+        expect(&(call_input){CALL_CRYPT_NOTE, words, 160, way, block, 16, wide + 16, block, 16}, m,
+               4, "wide output");
+        expect(&(call_input){CALL_CRYPT_NOTE, words, 160, way, m, wide + 16, 16, block, 16}, m, 4,
+               "wide note");
+        expect(&(call_input){CALL_CRYPT_NOTE, words, 160, way, m, wide + 16, wide + 16, block, 16},
+               m, 12, "wide note and output");
     }
     expect(&(call_input){CALL_PAGE, NULL, 0, 0, m, wide + 4, 64}, m, 5, "wide book");
-    expect(&(call_input){CALL_PAGE, NULL, 0, 0, one_record_book, sizeof one_record_book, wide + 64}, m, 4, "wide output");
-    expect(&(call_input){CALL_PAGE, NULL, 0, 0, one_record_book, sizeof one_record_book, 64, NULL, 0, wide}, m, 13, "wide sheet");
+    expect(&(call_input){CALL_PAGE, NULL, 0, 0, one_record_book, sizeof one_record_book, wide + 64},
+           m, 4, "wide output");
+    expect(&(call_input){CALL_PAGE, NULL, 0, 0, one_record_book, sizeof one_record_book, 64, NULL,
+                         0, wide},
+           m, 13, "wide sheet");
     munmap(m, mapped);
     printf("guard: %u calls with lengths above 2^32\n", stated);
 }

@@ -14,7 +14,8 @@ static void expect(const char *name, uint64_t value, uint64_t due)
 {
     if (value == due)
         return;
-    fprintf(stderr, "header: FAILED: %s is %lu, expected %lu\n", name, (unsigned long)value, (unsigned long)due);
+    fprintf(stderr, "header: FAILED: %s is %lu, expected %lu\n", name, (unsigned long)value,
+            (unsigned long)due);
     wrong = 1;
 }
 
@@ -85,7 +86,8 @@ static void check_answers(void)
     expect("planbook_count of a refusal", planbook_count(refusal), 0);
     expect("planbook_check of a count", planbook_check(4088), 0);
     expect("planbook_count of a count", planbook_count(4088), 4088);
-    expect("planbook_version is PLANBOOK_VERSION", strcmp(planbook_version(), PLANBOOK_VERSION) == 0, 1);
+    expect("planbook_version is PLANBOOK_VERSION",
+           strcmp(planbook_version(), PLANBOOK_VERSION) == 0, 1);
     /* Each number has a sentence of its own, and so have those above the last. */
     for (uint32_t a = 0; a <= LAST_CHECK + 1; a++)
         for (uint32_t b = 0; b < a; b++)
@@ -96,16 +98,22 @@ static void check_answers(void)
 static void check_expanded_length(void)
 {
     static const size_t beyond[] = {
-        128, 160, 192, 224, 256, 256 + 16, 256 + 24, 256 + 32, 65536 + 16, ((size_t)1 << 32) + 16, ((size_t)1 << 32) + 24,
-        ((size_t)1 << 63) + 32, SIZE_MAX, SIZE_MAX - 15,
+        128, 160, 192, 224, 256, 256 + 16, 256 + 24, 256 + 32, 65536 + 16,
+        ((size_t)1 << 32) + 16,
+        ((size_t)1 << 32) + 24,
+        ((size_t)1 << 63) + 32,
+        SIZE_MAX,
+        SIZE_MAX - 15,
     };
     for (size_t len = 0; len <= 70; len++) {
         char name[80];
         snprintf(name, sizeof name, "planbook_expanded_length of %lu", (unsigned long)len);
-        expect(name, planbook_expanded_length(len), len == 16 ? 160 : len == 24 ? 192 : len == 32 ? 224 : 0);
+        size_t due = len == 16 ? 160 : len == 24 ? 192 : len == 32 ? 224 : 0;
+        expect(name, planbook_expanded_length(len), due);
     }
     for (size_t i = 0; i < sizeof beyond / sizeof beyond[0]; i++)
-        expect("planbook_expanded_length of a length that is no key's", planbook_expanded_length(beyond[i]), 0);
+        expect("planbook_expanded_length of a length that is no key's",
+               planbook_expanded_length(beyond[i]), 0);
 }
 
 /* Each byte that is named, and none beside; stack.c looks at what the compiler leaves of it. */
@@ -124,15 +132,16 @@ static void check_wipe(void)
     planbook_wipe(NULL, 0);
 }
 
-/* The contents of 64 sheets, of which each entry has the record count that is looked at, and room for two more. */
+/* The contents of 64 sheets, of which each entry has the record count that is looked at, and room
+ * for two more. */
 enum { CONTENTS_LENGTH = HEAD_LENGTH + ENTRY_LENGTH * MAX_SHEETS };
 static uint8_t contents[CONTENTS_LENGTH + 2 * ENTRY_LENGTH];
 
 static void expect_page_length(size_t book_len, uint64_t sheet, size_t due)
 {
     char name[120];
-    snprintf(name, sizeof name, "planbook_page_length of sheet %lu in %lu bytes", (unsigned long)sheet,
-             (unsigned long)book_len);
+    snprintf(name, sizeof name, "planbook_page_length of sheet %lu in %lu bytes",
+             (unsigned long)sheet, (unsigned long)book_len);
     expect(name, planbook_page_length(contents, book_len, sheet), due);
 }
 
@@ -177,7 +186,15 @@ static void check_sheet_numbers(void)
 static void check_page_length(void)
 {
     static const uint64_t beyond[] = {
-        64, 65, 256, 65536, UINT32_MAX, (uint64_t)1 << 32, ((uint64_t)1 << 32) + 63, (uint64_t)1 << 61, UINT64_MAX,
+        64,
+        65,
+        256,
+        65536,
+        UINT32_MAX,
+        (uint64_t)1 << 32,
+        ((uint64_t)1 << 32) + 63,
+        (uint64_t)1 << 61,
+        UINT64_MAX,
     }; /* 24 times 2^61 is 0 in 64 bits */
     contents[0] = CLEAR_BOOK;
     contents[3] = MAX_SHEETS;
@@ -208,6 +225,7 @@ int main(void)
     check_wipe();
     check_page_length();
     if (!wrong)
-        printf("header: passed: lengths, ways, checks and functions, those of a page's and of words' length among them\n");
+        printf("header: passed: lengths, ways, checks and functions, those of a page's and of "
+               "words' length among them\n");
     return wrong;
 }

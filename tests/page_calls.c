@@ -17,7 +17,8 @@ static verdict expect(uint64_t answer, const char *what)
 
 #define HEADING "     TRIAL      ENTRY R ROW COL\n"
 
-/* Sheets of three records and of five, in no order but that of the body; the highest numbers, and plants in reserve. */
+/* Sheets of three records and of five, in no order but that of the body; the highest numbers, and
+ * plants in reserve. */
 static const uint8_t two_sheets[] = {
     0x01, 0x00, 0x00, 0x02,
     0x00, 0x00, 0x00, 0x09, 0x00, 0x03, 0x00, 0x00, 0xff, 0xff, 0xff, 0xff, 0xff, 0xff, 0xff, 0xff,
@@ -63,11 +64,12 @@ static void check_typed_pages(void)
     for (size_t i = 0; i < TYPED_PAGES; i++) {
         const char *text = typed_pages[i].text;
         size_t len = strlen(text);
-        c.in = (call_input){CALL_PAGE, NULL, 0, 0, typed_pages[i].book, typed_pages[i].len, len, NULL, 0,
-                            typed_pages[i].sheet};
+        c.in = (call_input){CALL_PAGE, NULL, 0, 0, typed_pages[i].book, typed_pages[i].len, len};
+        c.in.sheet = typed_pages[i].sheet;
         expect(len / LINE_LENGTH, "typed page");
         if (memcmp(last_output(), text, len) != 0)
-            fail_call(&c.in, "typed page", "library and reference agree on another text than the one typed out");
+            fail_call(&c.in, "typed page",
+                      "library and reference agree on another text than the one typed out");
     }
 }
 
@@ -93,8 +95,9 @@ static const book_shape three_sheets = {3, {2, 1, 5}};
 static void check_sheet_index(size_t sheets)
 {
     const uint64_t indices[] = {
-        0, sheets - 1, sheets, sheets + 1, 62, 63, 64, 65, 0x100, 0x10000, 0x100000000, 0x100000000 + sheets - 1,
-        0x2000000000000000, 0x8000000000000000, UINT64_MAX - 1, UINT64_MAX,
+        0, sheets - 1, sheets, sheets + 1, 62, 63, 64, 65, 0x100, 0x10000, 0x100000000,
+        0x100000000 + sheets - 1, 0x2000000000000000, 0x8000000000000000, UINT64_MAX - 1,
+        UINT64_MAX,
     }; /* 24 times 2^61 is 0 in 64 bits */
     book_shape shape = {sheets, {0}};
     for (size_t i = 0; i < sheets; i++)
@@ -144,8 +147,10 @@ static void check_longest_page(void)
 /* Check 11 is of the whole book, whichever sheet is asked for. */
 static void check_broken_records(void)
 {
-    /* a byte of a record, and the bits of it that are changed: trial, replicate, row, column, the three zero bytes */
-    static const uint8_t changes[][2] = {{3, 1}, {8, 0x80}, {9, 0x80}, {11, 0x80}, {13, 1}, {14, 0x80}, {15, 1}};
+    /* a byte of a record, and the bits of it that are changed: trial, replicate, row, column, the
+     * three zero bytes */
+    static const uint8_t changes[][2] = {{3, 1},  {8, 0x80},  {9, 0x80}, {11, 0x80},
+                                         {13, 1}, {14, 0x80}, {15, 1}};
     for (size_t sheet = 0; sheet < 3; sheet++)
         for (size_t j = 0; j < 8; j++)
             for (size_t i = 0; i < sizeof changes / sizeof changes[0]; i++) {
@@ -195,7 +200,8 @@ static void check_pairs(void)
                 continue; /* a book that ends within its contents has no record */
             break_book(both);
             if ((expect(refusal(order[a]), "two checks at once").failing & both) != both)
-                fail_call(&c.in, "two checks at once", "checks %d and %d do not both fail", order[a], order[b]);
+                fail_call(&c.in, "two checks at once", "checks %d and %d do not both fail",
+                          order[a], order[b]);
         }
     c.in.input_len = 3;
     expect(refusal(5), "book of 3 bytes");
@@ -207,9 +213,11 @@ static void check_pairs(void)
 static void check_numbers(void)
 {
     static const uint32_t numbers[] = {
-        1, 9, 10, 11, 99, 100, 101, 999, 1000, 9999, 10000, 65535, 65536, 99999, 100000, 999999, 1000000, 9999999, 10000000,
-        16777215, 16777216, 99999999, 100000000, 999999999, 1000000000, 1999999999, 2147483647, 2147483648, 3999999999,
-        4000000000, 4294967289, 4294967295,
+        1,          9,          10,         11,         99,         100,        101,
+        999,        1000,       9999,       10000,      65535,      65536,      99999,
+        100000,     999999,     1000000,    9999999,    10000000,   16777215,   16777216,
+        99999999,   100000000,  999999999,  1000000000, 1999999999, 2147483647, 2147483648,
+        3999999999, 4000000000, 4294967289, 4294967295,
     };
     enum { NUMBERS = sizeof numbers / sizeof numbers[0] };
     static const book_shape one = {1, {1}};
@@ -235,5 +243,6 @@ void check_pages(void)
     check_broken_records();
     check_pairs();
     check_numbers();
-    printf("pages: %u with a stated answer, %d of them with a text typed out by hand\n", tried, TYPED_PAGES);
+    printf("pages: %u with a stated answer, %d of them with a text typed out by hand\n", tried,
+           TYPED_PAGES);
 }

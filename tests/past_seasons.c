@@ -1,6 +1,6 @@
 /*
- * Books of past seasons, which were sealed under their key: under the words that the library expands it to, each opens to the
- * same bytes as in its season, and is sealed to the same ones.
+ * Books of past seasons, which were sealed under their key: under the words that the library
+ * expands it to, each opens to the same bytes as in its season, and is sealed to the same ones.
  *
  *   past_seasons tests/past
  */
@@ -57,11 +57,13 @@ static size_t records_in(const file *book)
 }
 
 /* By each way; where it is accepted the output is as the season had it. */
-static void expect_book(call_kind kind, const uint8_t *words, size_t words_len, const file *from, const file *to, int check)
+static void expect_book(call_kind kind, const uint8_t *words, size_t words_len, const file *from,
+                        const file *to, int check)
 {
     call_input in = {kind, words, words_len, 1, from->bytes, from->len, from->len};
     for (in.way = 1; in.way <= WAYS; in.way++) {
-        compare_stated(&in, check == 0 ? records_in(from) : refusal(check), "book of a past season");
+        compare_stated(&in, check == 0 ? records_in(from) : refusal(check),
+                       "book of a past season");
         if (check == 0 && (to->len != from->len || memcmp(last_output(), to->bytes, to->len) != 0))
             fail_call(&in, "book of a past season", "other bytes than in its season");
     }
@@ -90,6 +92,7 @@ int main(int argc, char **argv)
         fail("usage: past_seasons FOLDER");
     for (size_t i = 0; i < SEASONS; i++)
         check_season(argv[1], &seasons[i]);
-    printf("past_seasons: passed: %d books of past seasons, by %d pairs of ways\n", SEASONS, WAYS * WAYS);
+    printf("past_seasons: passed: %d books of past seasons, by %d pairs of ways\n", SEASONS,
+           WAYS * WAYS);
     return 0;
 }

@@ -17,7 +17,8 @@ static size_t load_half(const uint8_t *bytes)
 const char *call_name(call_kind kind)
 {
     static const char *const names[CALLS] = {
-        "constants", "expand key", "encrypt block", "decrypt block", "encrypt book", "decrypt book", "crypt note", "page",
+        "constants",    "expand key",   "encrypt block", "decrypt block",
+        "encrypt book", "decrypt book", "crypt note",    "page",
     };
     return names[kind];
 }
@@ -156,7 +157,8 @@ static int output_length_wrong(const call_input *in)
 static unsigned failing_without_book(const call_input *in)
 {
     unsigned failing = 0;
-    if ((in->kind == CALL_CONSTANTS || in->kind == CALL_EXPAND_KEY) && !key_length_permitted(in->secret_len))
+    if ((in->kind == CALL_CONSTANTS || in->kind == CALL_EXPAND_KEY) &&
+        !key_length_permitted(in->secret_len))
         failing |= bit(CHECK_KEY);
     if (call_has_words(in->kind) && !words_length_permitted(in->secret_len))
         failing |= bit(CHECK_WORDS);
@@ -219,9 +221,10 @@ static int plot_holds(size_t row, size_t column)
 
 static int record_holds(const uint8_t *record, const uint8_t *entry)
 {
-    return memcmp(record, entry, 4) == 0 && reference_load_word(record + 4) != 0 && record[8] >= 1 &&
-           record[8] <= reference_replicates(entry) && plot_holds(load_half(record + 9), load_half(record + 11)) &&
-           record[13] == 0 && record[14] == 0 && record[15] == 0;
+    return memcmp(record, entry, 4) == 0 && reference_load_word(record + 4) != 0 &&
+           record[8] >= 1 && record[8] <= reference_replicates(entry) &&
+           plot_holds(load_half(record + 9), load_half(record + 11)) && record[13] == 0 &&
+           record[14] == 0 && record[15] == 0;
 }
 
 /* CBC. */
@@ -232,14 +235,16 @@ static void xor_block(uint8_t *to, const uint8_t *a, const uint8_t *b)
         to[i] = a[i] ^ b[i];
 }
 
-static void encrypt_record(const reference_words *words, const uint8_t *chain, const uint8_t *in, uint8_t *out)
+static void encrypt_record(const reference_words *words, const uint8_t *chain, const uint8_t *in,
+                           uint8_t *out)
 {
     uint8_t block[REFERENCE_BLOCK];
     xor_block(block, in, chain);
     reference_encrypt_block(words, block, out);
 }
 
-static void decrypt_record(const reference_words *words, const uint8_t *chain, const uint8_t *in, uint8_t *out)
+static void decrypt_record(const reference_words *words, const uint8_t *chain, const uint8_t *in,
+                           uint8_t *out)
 {
     uint8_t block[REFERENCE_BLOCK];
     reference_decrypt_block(words, in, block);
@@ -248,7 +253,8 @@ static void decrypt_record(const reference_words *words, const uint8_t *chain, c
 
 /* Whether some record that is there breaks its rule. clear is a copy of the
  * book; with words, its records are decrypted up to the first that does. */
-static int some_record_breaks_rule(const book_view *book, const reference_words *words, uint8_t *clear)
+static int some_record_breaks_rule(const book_view *book, const reference_words *words,
+                                   uint8_t *clear)
 {
     size_t next = contents_end(book);
     if (book->entries < book->sheets)
@@ -269,7 +275,8 @@ static int some_record_breaks_rule(const book_view *book, const reference_words 
 }
 
 /* Each sheet begins at its own iv. */
-void reference_encrypt_bodies(const reference_words *words, const uint8_t *bytes, size_t len, uint8_t *out)
+void reference_encrypt_bodies(const reference_words *words, const uint8_t *bytes, size_t len,
+                              uint8_t *out)
 {
     book_view book = view_book(bytes, len);
     size_t next = contents_end(&book);
@@ -287,14 +294,16 @@ void reference_encrypt_bodies(const reference_words *words, const uint8_t *bytes
     }
 }
 
-/* The planting page of a sheet; the count is its lines. A page is asked for only where no check fails. */
+/* The planting page of a sheet; the count is its lines. A page is asked for only where no check
+ * fails. */
 
 static void write_line(const uint8_t *record, uint8_t *out)
 {
     char text[64];
-    int len = snprintf(text, sizeof text, "%10lu %10lu %1u %3u %3u\n", (unsigned long)reference_load_word(record),
-                       (unsigned long)reference_load_word(record + 4), record[8], (unsigned)load_half(record + 9),
-                       (unsigned)load_half(record + 11));
+    int len = snprintf(text, sizeof text, "%10lu %10lu %1u %3u %3u\n",
+                       (unsigned long)reference_load_word(record),
+                       (unsigned long)reference_load_word(record + 4), record[8],
+                       (unsigned)load_half(record + 9), (unsigned)load_half(record + 11));
     if (len != LINE_LENGTH) {
         fprintf(stderr, "reference: a line of %d bytes\n", len);
         exit(2);
@@ -323,7 +332,8 @@ static unsigned failing_head(const call_input *in)
     unsigned failing = 0;
     if (in->input_len < HEAD_LENGTH || in->input_len > MAX_BOOK_LENGTH)
         failing |= bit(CHECK_BOOK_LENGTH);
-    if ((in->input_len > 0 && in->input[0] != permitted) || (in->input_len > 1 && in->input[1] != 0))
+    if ((in->input_len > 0 && in->input[0] != permitted) ||
+        (in->input_len > 1 && in->input[1] != 0))
         failing |= bit(CHECK_HEAD);
     return failing;
 }
@@ -354,9 +364,10 @@ static uint8_t *allocate(size_t len)
     return bytes;
 }
 
-/* What the book becomes. clear is a copy of it in which the records are decrypted already. Answers the count. */
-static uint64_t write_book(const call_input *in, const book_view *book, const reference_words *words,
-                           const uint8_t *clear, uint8_t *out)
+/* What the book becomes. clear is a copy of it in which the records are decrypted already. Answers
+ * the count. */
+static uint64_t write_book(const call_input *in, const book_view *book,
+                           const reference_words *words, const uint8_t *clear, uint8_t *out)
 {
     if (in->kind == CALL_PAGE)
         return write_page(book, in->sheet, out);
@@ -382,7 +393,8 @@ static verdict book_verdict(const call_input *in, unsigned failing, uint8_t *out
     if (has_words)
         reference_load_words(&words, in->secret, in->secret_len);
     memcpy(clear, book.bytes, book.len);
-    if ((!decrypting || has_words) && some_record_breaks_rule(&book, decrypting ? &words : NULL, clear))
+    if ((!decrypting || has_words) &&
+        some_record_breaks_rule(&book, decrypting ? &words : NULL, clear))
         v.failing |= bit(CHECK_RECORD);
     if (v.failing == 0)
         v.answer = write_book(in, &book, &words, clear, out);
@@ -455,7 +467,8 @@ static uint64_t answer_of(call_kind kind, unsigned failing, uint64_t count)
 {
     int first = 0;
     for (int check = 1; check <= LAST_CHECK; check++)
-        if ((failing & bit(check)) && (first == 0 || check_place(kind, check) < check_place(kind, first)))
+        if ((failing & bit(check)) &&
+            (first == 0 || check_place(kind, check) < check_place(kind, first)))
             first = check;
     return first == 0 ? count : (uint64_t)first << 32;
 }

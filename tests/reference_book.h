@@ -136,6 +136,7 @@ verdict reference_call(const call_input *in, uint8_t *out);
 
 /* Encrypts the records of each sheet that are there, whatever else is wrong
  * with the book, and copies all other bytes. */
-void reference_encrypt_bodies(const reference_words *words, const uint8_t *book, size_t len, uint8_t *out);
+void reference_encrypt_bodies(const reference_words *words, const uint8_t *book, size_t len,
+                              uint8_t *out);
 
 #endif

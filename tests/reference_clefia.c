@@ -266,7 +266,8 @@ static unsigned bit_of(const uint32_t x[4], unsigned i)
     return x[i / 32] >> (31 - i % 32) & 1;
 }
 
-static unsigned append_bits(uint32_t y[4], unsigned at, const uint32_t x[4], unsigned first, unsigned last)
+static unsigned append_bits(uint32_t y[4], unsigned at, const uint32_t x[4], unsigned first,
+                            unsigned last)
 {
     for (unsigned i = first; i <= last; i++, at++)
         y[at / 32] |= (uint32_t)bit_of(x, i) << (31 - at % 32);
@@ -287,8 +288,8 @@ static void double_swap(uint32_t x[4])
 
 /* One step of the expansion: four round keys from an intermediate key, which
  * is double-swapped for its next use. */
-static void next_round_keys(uint32_t round_keys[4], uint32_t intermediate[4], const uint32_t constants[4],
-                            const uint32_t *added_key)
+static void next_round_keys(uint32_t round_keys[4], uint32_t intermediate[4],
+                            const uint32_t constants[4], const uint32_t *added_key)
 {
     for (unsigned j = 0; j < 4; j++)
         round_keys[j] = intermediate[j] ^ constants[j];
@@ -305,7 +306,8 @@ static void expand_128(reference_words *e, const uint32_t k[4])
         l[i] = e->whitening[i] = k[i];
     gfn(l, 4, 12, constants_128);
     for (unsigned i = 0; i <= 8; i++)
-        next_round_keys(e->round_keys + 4 * i, l, constants_128 + 24 + 4 * i, i % 2 == 1 ? k : NULL);
+        next_round_keys(e->round_keys + 4 * i, l, constants_128 + 24 + 4 * i,
+                        i % 2 == 1 ? k : NULL);
 }
 
 /* Sections 2.4.3 and 2.4.4, from step 3 on. */

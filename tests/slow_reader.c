@@ -1,6 +1,6 @@
 /*
- * Makes its standard input, a pipe, as small as can be, creates the file that is named to say so, and then copies to standard
- * output, a little at a time, with pauses.
+ * Makes its standard input, a pipe, as small as can be, creates the file that is named to say so,
+ * and then copies to standard output, a little at a time, with pauses.
  *
  *   slow_reader FILE
  */

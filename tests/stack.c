@@ -1,8 +1,9 @@
 /*
- * What a call leaves on the stack, and how much of it a call uses. Each call is made on a stack of its own, which is
- * then searched for the words of the key and of what it is expanded to, or the words that were passed, for those of the clear
- * block, record or note, and of the encrypted counter blocks, which open the sealed note: after planbook_wipe_stack there must
- * be none; without it there must be some where a key or words were used, or this test could not fail.
+ * What a call leaves on the stack, and how much of it a call uses. Each call is made on a stack of
+ * its own, which is then searched for the words of the key and of what it is expanded to, or the
+ * words that were passed, for those of the clear block, record or note, and of the encrypted
+ * counter blocks, which open the sealed note: after planbook_wipe_stack there must be none; without
+ * it there must be some where a key or words were used, or this test could not fail.
  *
  * And so with planbook_wipe, where a function has the words in a buffer of its own.
  *
@@ -21,8 +22,9 @@
 
 enum {
     OWN_STACK_BYTES = 128 * 1024,
-    FILL = 0xa5,   /* what the stack holds before the call */
-    MARGIN = 4096, /* how much less than PLANBOOK_STACK_BYTES is used, the frames of this file included */
+    FILL = 0xa5, /* what the stack holds before the call */
+    /* how much less than PLANBOOK_STACK_BYTES is used, the frames of this file included */
+    MARGIN = 4096,
     RECORDS = 5,
     NOTE_BYTES = 5 * REFERENCE_BLOCK + 8,
     MAX_SECRETS = 8 + 56 + 2 * (NOTE_BYTES / 4)
@@ -31,9 +33,11 @@ enum {
 static uint8_t stack[OWN_STACK_BYTES];
 static ucontext_t outside, inside;
 
-/* One call, as the function on the other stack finds it: nothing secret goes through this file's own frames. */
+/* One call, as the function on the other stack finds it: nothing secret goes through this file's
+ * own frames. */
 static call_input in;
-static uint8_t secret[REFERENCE_MAX_WORDS_LENGTH], counter[COUNTER_LENGTH], input[256], output[PLANBOOK_CONSTANTS256_BYTES];
+static uint8_t secret[REFERENCE_MAX_WORDS_LENGTH], counter[COUNTER_LENGTH], input[256],
+    output[PLANBOOK_CONSTANTS256_BYTES];
 static uint64_t answer;
 static int wipe;
 
@@ -74,7 +78,8 @@ static uint32_t turned(uint32_t word)
     return word >> 24 | (word >> 8 & 0xff00) | (word << 8 & 0xff0000) | word << 24;
 }
 
-/* How many of the secret words are somewhere between two places of the stack, in either order of their bytes. */
+/* How many of the secret words are somewhere between two places of the stack, in either order of
+ * their bytes. */
 static size_t secrets_between(size_t first, size_t end)
 {
     size_t found = 0;
@@ -110,8 +115,9 @@ static void add_expanded_key(void)
     add_secrets(bytes, 4 * reference_store_words(bytes, &expanded));
 }
 
-/* A book of two sheets. The first three words of each record are secrets; trials, entries and plots are made high, since
- * small numbers may be on the stack for another reason. Row and column are one word here, 935 and 709 in the first record. */
+/* A book of two sheets. The first three words of each record are secrets; trials, entries and plots
+ * are made high, since small numbers may be on the stack for another reason. Row and column are one
+ * word here, 935 and 709 in the first record. */
 static size_t make_book(uint8_t *book)
 {
     static const book_shape shape = {2, {3, RECORDS - 3}};
@@ -192,7 +198,8 @@ static void make_call(call_kind kind, uint64_t way, uint64_t key_len)
         add_expanded_key();
 }
 
-/* Runs the call, which must be accepted or refused as stated; answers how many secret words it left. */
+/* Runs the call, which must be accepted or refused as stated; answers how many secret words it
+ * left. */
 static size_t words_left(int wiping, int accepted)
 {
     wipe = wiping;
@@ -210,12 +217,14 @@ static void note_depth(void)
     if (used > deepest)
         deepest = used;
     if (used > PLANBOOK_STACK_BYTES - MARGIN)
-        fail_call(&in, "stack", "%zu bytes of stack are used, above %d", used, PLANBOOK_STACK_BYTES - MARGIN);
+        fail_call(&in, "stack", "%zu bytes of stack are used, above %d", used,
+                  PLANBOOK_STACK_BYTES - MARGIN);
 }
 
 static size_t least_left = MAX_SECRETS;
 
-/* A call that has used a key or words must leave some of them, or the search is no test of the wipe. */
+/* A call that has used a key or words must leave some of them, or the search is no test of the
+ * wipe. */
 static void try_call(int accepted, int leaves)
 {
     size_t left = words_left(0, accepted);
@@ -230,8 +239,8 @@ static void try_call(int accepted, int leaves)
         fail_call(&in, "stack", "%zu secret words are found after the wipe", left);
 }
 
-/* Prepares a key in a buffer of its own, and seals a block. The buffer is wiped last of all: nothing reads it any more, so that
- * a compiler may leave out stores that are not volatile. */
+/* Prepares a key in a buffer of its own, and seals a block. The buffer is wiped last of all:
+ * nothing reads it any more, so that a compiler may leave out stores that are not volatile. */
 static size_t buffer_at;
 static int wipe_buffer;
 
@@ -241,7 +250,8 @@ static void prepare_and_wipe(void)
     size_t len = planbook_expanded_length(in.secret_len);
     answer = planbook_expand_key(secret, in.secret_len, in.way, words, len);
     if (planbook_check(answer) == PLANBOOK_ACCEPTED)
-        answer = planbook_encrypt_block(words, len, in.way, input, REFERENCE_BLOCK, output, REFERENCE_BLOCK);
+        answer = planbook_encrypt_block(words, len, in.way, input, REFERENCE_BLOCK, output,
+                                        REFERENCE_BLOCK);
     buffer_at = (size_t)((uintptr_t)words - (uintptr_t)stack);
     if (wipe)
         planbook_wipe_stack();
@@ -293,8 +303,8 @@ int main(int argc, char **argv)
             }
     for (uint64_t key_len = 16; key_len <= 32; key_len += 8)
         try_wipe(key_len);
-    printf("stack: at most %zu bytes used by a call; at least %zu secret words left where a key or words were used, none after "
-           "the wipe; none in a buffer of words after planbook_wipe\n",
+    printf("stack: at most %zu bytes used by a call; at least %zu secret words left where a key or "
+           "words were used, none after the wipe; none in a buffer of words after planbook_wipe\n",
            deepest, least_left);
     printf("stack: passed\n");
     return 0;

@@ -42,7 +42,8 @@ extern const uint8_t one_record_book[ONE_RECORD_LENGTH];
 /* Whether these are the bytes that the words of a key have. */
 int is_words_length(uint64_t len);
 
-/* A clear book sealed under these words by the reference; words_len must be that of a key's words. */
+/* A clear book sealed under these words by the reference; words_len must be that of a key's
+ * words. */
 void seal_by_reference(const uint8_t *words, size_t words_len, const uint8_t *clear, size_t len,
                        uint8_t *sealed);
 

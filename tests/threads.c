@@ -56,7 +56,8 @@ static uint8_t *shared[3];
 static void share_words(void)
 {
     uint8_t key[32];
-    uint8_t *room = mmap(NULL, 3 * SHARED_ROOM, PROT_READ | PROT_WRITE, MAP_PRIVATE | MAP_ANONYMOUS, -1, 0);
+    uint8_t *room =
+        mmap(NULL, 3 * SHARED_ROOM, PROT_READ | PROT_WRITE, MAP_PRIVATE | MAP_ANONYMOUS, -1, 0);
     if (room == MAP_FAILED)
         fail("no memory for words");
     random_fill(&random_source, key, sizeof key);
@@ -163,7 +164,8 @@ static void run_workers(void)
     if (pthread_barrier_init(&start, NULL, THREADS) != 0)
         fail("no barrier");
     for (size_t t = 0; t < THREADS; t++) {
-        workers[t].first = 3 * t; /* near each other, so that two that run at once are mostly in one call, by other cases */
+        /* near each other, so that two that run at once are mostly in one call, by other cases */
+        workers[t].first = 3 * t;
         workers[t].rounds = scaled(ROUNDS);
         if (pthread_create(&workers[t].thread, NULL, work, &workers[t]) != 0)
             fail("no thread");
@@ -182,8 +184,10 @@ int main(int argc, char **argv)
     run_workers();
     for (size_t t = 0; t < THREADS; t++)
         if (workers[t].wrong != NULL)
-            fail_call(&workers[t].wrong->c.in, "threads", "another answer or output than the reference has");
-    printf("threads: %d threads, each %" PRIu64 " times through %d accepted and %u refused calls by %d ways, with words that all "
+            fail_call(&workers[t].wrong->c.in, "threads",
+                      "another answer or output than the reference has");
+    printf("threads: %d threads, each %" PRIu64
+           " times through %d accepted and %u refused calls by %d ways, with words that all "
            "share\n",
            THREADS, scaled(ROUNDS), ALL_CASES - (int)refused, refused, WAYS);
     printf("threads: passed\n");

@@ -37,7 +37,8 @@ static job jobs[JOBS] = {
 
 static void make_jobs(void)
 {
-    static const book_shape shape = {2, {5, 2}}; /* as in the note, four blocks in parallel and others */
+    /* as in the note, four blocks in parallel and others */
+    static const book_shape shape = {2, {5, 2}};
     jobs[1].len = make_clear_book(&random_source, &shape, book);
     random_fill(&random_source, block, sizeof block);
     random_fill(&random_source, note, sizeof note);
@@ -45,7 +46,8 @@ static void make_jobs(void)
     reference_store_word(counter + COUNTER_PREFIX_LENGTH, UINT32_MAX - 1);
 }
 
-static call_input job_call(const job *j, call_kind kind, const uint8_t *words, size_t len, const uint8_t *input)
+static call_input job_call(const job *j, call_kind kind, const uint8_t *words, size_t len,
+                           const uint8_t *input)
 {
     call_input in = {kind, words, len, 1, input, j->len, j->len, NULL, 0};
     if (kind == CALL_CRYPT_NOTE) {
@@ -95,8 +97,9 @@ static void try_drawn(size_t len)
     }
 }
 
-/* The first whitening key and the first round key act on bytes 4 to 7 of a block before all else, which are a record's entry:
- * where one of their bits was changed, an opened book differs in entries alone. */
+/* The first whitening key and the first round key act on bytes 4 to 7 of a block before all else,
+ * which are a record's entry: where one of their bits was changed, an opened book differs in
+ * entries alone. */
 static void expect_other_entries(const call_input *in, size_t changed, const char *what)
 {
     size_t bodies = contents_length(book);
@@ -105,11 +108,13 @@ static void expect_other_entries(const call_input *in, size_t changed, const cha
     for (size_t i = 0; i < in->out_len; i++) {
         size_t at = i < bodies ? 0 : (i - bodies) % RECORD_LENGTH;
         if (last_output()[i] != book[i] && (at < 4 || at >= 8))
-            fail_call(in, what, "byte %zu is another, though byte %zu of the words was changed", i, changed);
+            fail_call(in, what, "byte %zu is another, though byte %zu of the words was changed", i,
+                      changed);
     }
 }
 
-/* A book that was sealed before a bit of this byte of the words was changed: it is refused, or opens as another. */
+/* A book that was sealed before a bit of this byte of the words was changed: it is refused, or
+ * opens as another. */
 static void open_under(const uint8_t *words, size_t len, const uint8_t *sealed_book, size_t changed)
 {
     static const char what[] = "book sealed before a bit of the words was changed";
@@ -125,8 +130,9 @@ static void open_under(const uint8_t *words, size_t len, const uint8_t *sealed_b
     open_as_others += v.failing == 0;
 }
 
-/* The words of a key with one bit changed, each in turn; a shorter run leaves bits out. Each bit counts: an F-function and an
- * exclusive or give another result under another word, so no block is encrypted as before. */
+/* The words of a key with one bit changed, each in turn; a shorter run leaves bits out. Each bit
+ * counts: an F-function and an exclusive or give another result under another word, so no block is
+ * encrypted as before. */
 static void try_changed_bits(size_t len)
 {
     uint8_t words[REFERENCE_MAX_WORDS_LENGTH], before[REFERENCE_BLOCK], sealed_book[BOOK_ROOM];
@@ -151,8 +157,10 @@ static void try_changed_bits(size_t len)
 
 /* Words of a key, expanded by the library. */
 
-/* One call under the library's words by each way, and once by the reference under those that it has expanded itself. */
-static void use_prepared(call_input in, const uint8_t *words, const uint8_t *own_words, const uint8_t *due)
+/* One call under the library's words by each way, and once by the reference under those that it has
+ * expanded itself. */
+static void use_prepared(call_input in, const uint8_t *words, const uint8_t *own_words,
+                         const uint8_t *due)
 {
     uint8_t out[BOOK_ROOM], own[BOOK_ROOM];
     verdict v;
@@ -164,15 +172,18 @@ static void use_prepared(call_input in, const uint8_t *words, const uint8_t *own
         if (answer != v.answer)
             fail_answer(&in, "words that the library expanded", answer, v.answer);
         if (memcmp(out, own, in.out_len) != 0)
-            fail_call(&in, "words that the library expanded", "another output than the reference has under the key");
+            fail_call(&in, "words that the library expanded",
+                      "another output than the reference has under the key");
         if (due != NULL && memcmp(out, due, in.out_len) != 0)
-            fail_call(&in, "words that the library expanded", "it does not open to what was sealed under the key");
+            fail_call(&in, "words that the library expanded",
+                      "it does not open to what was sealed under the key");
     }
 }
 
 static void prepare_and_use(const uint8_t *key, size_t key_len, uint64_t way)
 {
-    uint8_t words[REFERENCE_MAX_WORDS_LENGTH], own_words[REFERENCE_MAX_WORDS_LENGTH], sealed[BOOK_ROOM];
+    uint8_t words[REFERENCE_MAX_WORDS_LENGTH], own_words[REFERENCE_MAX_WORDS_LENGTH],
+        sealed[BOOK_ROOM];
     reference_words expanded;
     size_t len;
     call_input expand = {CALL_EXPAND_KEY, key, key_len, way, NULL, 0, 0};
@@ -201,7 +212,8 @@ static void check_prepared_words(void)
             for (uint64_t way = 1; way <= WAYS; way++)
                 prepare_and_use(key, key_len, way);
         }
-    printf("prepared words: of %" PRIu64 " keys of each length, expanded by %d ways and used by %d, as the reference under the "
+    printf("prepared words: of %" PRIu64
+           " keys of each length, expanded by %d ways and used by %d, as the reference under the "
            "key\n",
            keys, WAYS, WAYS);
 }
@@ -218,7 +230,9 @@ static size_t make_other(uint8_t *other, const uint8_t *clear, size_t len, const
     switch (random_below(&random_source, 7)) {
     case 0: return len;
     case 1: entry[8 + random_below(&random_source, REFERENCE_BLOCK)] ^= 1; return len;
-    case 2: reference_store_word(record + 4, (uint32_t)random_between(&random_source, 1, 500)); return len;
+    case 2:
+        reference_store_word(record + 4, (uint32_t)random_between(&random_source, 1, 500));
+        return len;
     case 3: reference_store_word(record + 9, 0x00010001); return len; /* row and column */
     case 4: reference_store_word(record + 9, 0); return len;
     case 5: record[8] = 1; return len;
@@ -226,9 +240,11 @@ static size_t make_other(uint8_t *other, const uint8_t *clear, size_t len, const
     }
 }
 
-static void seal_book(const uint8_t *words, size_t words_len, const uint8_t *clear, size_t len, uint8_t *sealed)
+static void seal_book(const uint8_t *words, size_t words_len, const uint8_t *clear, size_t len,
+                      uint8_t *sealed)
 {
-    call_input in = {CALL_ENCRYPT_BOOK, words, words_len, random_between(&random_source, 1, WAYS), clear, len, len};
+    uint64_t way = random_between(&random_source, 1, WAYS);
+    call_input in = {CALL_ENCRYPT_BOOK, words, words_len, way, clear, len, len};
     if (compare_call(&in, "equal books").failing != 0)
         fail_call(&in, "equal books", "the reference refuses it");
     memcpy(sealed, last_output(), len);
@@ -252,10 +268,12 @@ static void check_equal_books(void)
             for (int k = 0; k < 2; k++)
                 seal_book(words, words_len, clear[k], len, sealed[k]);
             if ((memcmp(clear[0], clear[1], len) == 0) != (memcmp(sealed[0], sealed[1], len) == 0))
-                fail("of two clear books and the sealed ones, under the same words, two are equal and two are not");
+                fail("of two clear books and the sealed ones, under the same words, two are equal "
+                     "and two are not");
             equal += memcmp(clear[0], clear[1], len) == 0;
         }
-    printf("equal books: %" PRIu64 " pairs sealed under the same words, equal where the clear ones are (%" PRIu64 ")\n",
+    printf("equal books: %" PRIu64
+           " pairs sealed under the same words, equal where the clear ones are (%" PRIu64 ")\n",
            KEY_LENGTHS * pairs, equal);
 }
 
@@ -284,12 +302,14 @@ static void try_length(const uint8_t *words, size_t len)
     lengths_refused += !permitted;
 }
 
-/* Each up to 300; and longer ones, most of which are permitted if cut to 8 bits or to 16. A shorter run leaves some out. */
+/* Each up to 300; and longer ones, most of which are permitted if cut to 8 bits or to 16. A shorter
+ * run leaves some out. */
 static void check_words_lengths(void)
 {
     static uint8_t words[MAX_INPUT];
     static const size_t more[] = {
-        320, 336, 384, 640, 768, 896, 4096, 65532, 0x10000, 0x10000 + 160, 0x10000 + 192, 0x10000 + 224, MAX_INPUT,
+        320,   336,     384,           640,           768,           896,       4096,
+        65532, 0x10000, 0x10000 + 160, 0x10000 + 192, 0x10000 + 224, MAX_INPUT,
     };
     size_t step = 0x100 * (256 / scaled(256));
     random_fill(&random_source, words, sizeof words);
@@ -301,7 +321,8 @@ static void check_words_lengths(void)
     for (size_t base = step; base < 0x10000; base += step)
         for (size_t len = 160; len <= 224; len += 32)
             try_length(words, base + len);
-    printf("lengths of words: %u refused by five calls, %d accepted\n", lengths_refused, KEY_LENGTHS);
+    printf("lengths of words: %u refused by five calls, %d accepted\n", lengths_refused,
+           KEY_LENGTHS);
 }
 
 /* Check 14 comes first, whatever fails beside it: each check of the call, and all at once. */
@@ -325,8 +346,9 @@ static void check_words_first(void)
     printf("words first: %u calls in which check 14 and others fail\n", calls);
 }
 
-/* What the header says of damaged words, of a book typed out: a wrong bit in the first word shows in the entry, one in the first
- * byte of the second word in the column, and nothing refuses the book. */
+/* What the header says of damaged words, of a book typed out: a wrong bit in the first word shows
+ * in the entry, one in the first byte of the second word in the column, and nothing refuses the
+ * book. */
 static void check_unnoticed_damage(void)
 {
     static const struct {
@@ -337,7 +359,8 @@ static void check_unnoticed_damage(void)
     memcpy(clear, one_record_book, sizeof clear);
     for (size_t len = 160; len <= 224; len += 32)
         for (size_t i = 0; i < sizeof damages / sizeof damages[0]; i++) {
-            call_input in = {CALL_DECRYPT_BOOK, words, len, 1, sealed, sizeof sealed, sizeof sealed};
+            call_input in = {CALL_DECRYPT_BOOK, words,        len, 1, sealed,
+                             sizeof sealed,     sizeof sealed};
             make_words(&random_source, words, len);
             words[damages[i].changed] ^= damages[i].bit;
             seal_book(words, len, clear, sizeof clear, sealed);
@@ -345,25 +368,30 @@ static void check_unnoticed_damage(void)
             compare_ways(&in, 1, "book sealed under damaged words");
             clear[damages[i].shown] ^= damages[i].bit;
             if (memcmp(last_output(), clear, sizeof clear) != 0)
-                fail_call(&in, "book sealed under damaged words", "it is not the book with that bit changed");
+                fail_call(&in, "book sealed under damaged words",
+                          "it is not the book with that bit changed");
             clear[damages[i].shown] ^= damages[i].bit;
         }
-    printf("damaged words: %zu kinds change an entry or a column and nothing else\n", sizeof damages / sizeof damages[0]);
+    printf("damaged words: %zu kinds change an entry or a column and nothing else\n",
+           sizeof damages / sizeof damages[0]);
 }
 
-/* Words at every place in memory, and words that are the input too: only the output must lie apart. */
+/* Words at every place in memory, and words that are the input too: only the output must lie
+ * apart. */
 static void check_places(void)
 {
     uint8_t room[REFERENCE_MAX_WORDS_LENGTH + 64], due[BOOK_ROOM], out[BOOK_ROOM];
     for (size_t at = 0; at < 64; at++)
         for (size_t len = 160; len <= 224; len += 32) {
             uint8_t *words = room + at;
-            call_input in = {CALL_CRYPT_NOTE, words, len, 1, words + at % 7, 100, 100, words + at % 5, COUNTER_LENGTH};
+            call_input in = {CALL_CRYPT_NOTE, words,         len, 1, words + at % 7, 100, 100,
+                             words + at % 5,  COUNTER_LENGTH};
             make_words(&random_source, words, len);
             reference_call(&in, due);
             for (in.way = 1; in.way <= WAYS; in.way++)
                 if (library_call(&in, out) != 100 || memcmp(out, due, 100) != 0)
-                    fail_call(&in, "words at some place", "another answer or output at place %zu", at);
+                    fail_call(&in, "words at some place", "another answer or output at place %zu",
+                              at);
         }
     printf("places: words at 64 places, passed as counter block and note too\n");
 }
@@ -377,8 +405,9 @@ void check_words(void)
         try_drawn(len);
         try_changed_bits(len);
     }
-    printf("words: %" PRIu64 " that no key gives, with a block, a book and a note sealed and opened by %d ways; under %" PRIu64
-           " of them, with one bit changed, a sealed book opens as another\n",
+    printf("words: %" PRIu64 " that no key gives, with a block, a book and a note sealed and opened "
+           "by %d ways; under %" PRIu64 " of them, with one bit changed, a sealed book opens as "
+           "another\n",
            tried, WAYS, open_as_others);
     check_prepared_words();
     check_equal_books();

@@ -1,5 +1,6 @@
 /*
- * The worked book, note and page of docs/FORMAT.md: the fields, and the bytes against the library and the reference.
+ * The worked book, note and page of docs/FORMAT.md: the fields, and the bytes against the library
+ * and the reference.
  *
  *   worked_examples FORMAT.md KEY.hex
  */
@@ -73,7 +74,8 @@ static byte_row read_bytes(const char *text)
     return row;
 }
 
-/* One line of a table: | offset | `bytes` | field | value |. A value that is a number must be that of the bytes. */
+/* One line of a table: | offset | `bytes` | field | value |. A value that is a number must be that
+ * of the bytes. */
 static void read_field(const field *due, byte_row *book)
 {
     char name[LINE_BYTES], value[LINE_BYTES], bytes[LINE_BYTES];
@@ -143,8 +145,8 @@ static void expect_call(call_kind kind, const byte_row *from, const byte_row *to
     expect_bytes(call_name(kind), to->bytes, last_output(), BOOK_BYTES);
 }
 
-static void expect_encrypted(const char *what, const reference_words *expanded, const uint8_t *block,
-                             const uint8_t *encrypted)
+static void expect_encrypted(const char *what, const reference_words *expanded,
+                             const uint8_t *block, const uint8_t *encrypted)
 {
     uint8_t due[REFERENCE_BLOCK];
     reference_encrypt_block(expanded, block, due);
@@ -186,7 +188,8 @@ static void check_note(const reference_words *expanded)
     byte_row text = read_bytes(find_line("    text "));
     byte_row first = check_counter(expanded), second = check_counter(expanded);
     byte_row sealed = read_bytes(find_line("    sealed "));
-    call_input in = {CALL_CRYPT_NOTE, words, sizeof words, 1, text.bytes, text.len, text.len, first.bytes, first.len};
+    call_input in = {CALL_CRYPT_NOTE, words,    sizeof words, 1,        text.bytes,
+                     text.len,        text.len, first.bytes,  first.len};
     if (text.len != strlen(due) || memcmp(text.bytes, due, text.len) != 0 || sealed.len != text.len)
         fail("the text is not '%s', or the sealed note is not as long", due);
     compare_ways(&in, text.len, "worked note");
@@ -195,7 +198,8 @@ static void check_note(const reference_words *expanded)
     in.input += REFERENCE_BLOCK;
     in.input_len = in.out_len = text.len - REFERENCE_BLOCK;
     compare_ways(&in, in.input_len, "worked note, from its second counter block");
-    expect_bytes("rest of the sealed note", sealed.bytes + REFERENCE_BLOCK, last_output(), in.out_len);
+    expect_bytes("rest of the sealed note", sealed.bytes + REFERENCE_BLOCK, last_output(),
+                 in.out_len);
 }
 
 /* The page of the worked book: two lines as text, and then each as bytes. */
@@ -210,7 +214,8 @@ static void check_page(const byte_row *clear)
         const char *text = find_line("    ");
         if (strlen(text) != LINE_LENGTH)
             fail("a line of the worked page has %zu characters", strlen(text));
-        expect_bytes("line of the worked page", (const uint8_t *)text, due + LINE_LENGTH * i, LINE_LENGTH);
+        expect_bytes("line of the worked page", (const uint8_t *)text, due + LINE_LENGTH * i,
+                     LINE_LENGTH);
     }
     for (size_t i = 0; i < 2; i++) {
         byte_row row = read_bytes(find_line(names[i]));
@@ -237,7 +242,8 @@ int main(int argc, char **argv)
     check_note(&expanded);
     find_line("## A worked page");
     check_page(&clear);
-    printf("worked_examples: passed: the worked book, %d fields and two times %d bytes, the worked note and the worked page\n",
+    printf("worked_examples: passed: the worked book, %d fields and two times %d bytes, the worked "
+           "note and the worked page\n",
            CLEAR_FIELDS + SEALED_FIELDS, BOOK_BYTES);
     return 0;
 }

@@ -1,18 +1,21 @@
 // sources: tests/compare.c tests/cases.c tests/support.c tests/library.c tests/reference_book.c
 /*
- * A libFuzzer target: one call, made from the fuzzer's bytes and held against the reference (compare.c), which ends the
- * program where answer, output, a byte beside it or an input is not as it must be. The library itself carries no
- * marks for the fuzzer; it is the reference's branches that lead it on.
+ * A libFuzzer target: one call, made from the fuzzer's bytes and held against the reference
+ * (compare.c), which ends the program where answer, output, a byte beside it or an input is not as
+ * it must be. The library itself carries no marks for the fuzzer; it is the reference's branches
+ * that lead it on.
  *
- * Most bytes would be refused at the first look. So the bytes are a recipe: a case that cases.c makes, accepted or with
- * some checks made to fail, and then changes of single bytes and numbers; or they are the input itself.
+ * Most bytes would be refused at the first look. So the bytes are a recipe: a case that cases.c
+ * makes, accepted or with some checks made to fail, and then changes of single bytes and numbers;
+ * or they are the input itself.
  */
 #include "../compare.h"
 
 #include <string.h>
 
-/* The reference's cipher is built in here, without marks for the fuzzer: they take most of the time (1,700 runs a second
- * became 6,600), and which way the cipher's loops go says nothing about a book. */
+/* The reference's cipher is built in here, without marks for the fuzzer: they take most of the time
+ * (1,700 runs a second became 6,600), and which way the cipher's loops go says nothing about a
+ * book. */
 #if defined(__clang__) && __clang_major__ >= 13
 #pragma clang attribute push(__attribute__((no_sanitize("coverage"))), apply_to = function)
 #endif
@@ -52,7 +55,8 @@ static void change_byte(uint8_t *bytes, size_t len, uint64_t place, uint64_t by)
         bytes[place % len] ^= (uint8_t)by;
 }
 
-/* A length moved by up to 128 bytes, or seldom to anywhere (which costs time); never beyond the memory that is there. */
+/* A length moved by up to 128 bytes, or seldom to anywhere (which costs time); never beyond the
+ * memory that is there. */
 static uint64_t changed_length(recipe *r, uint64_t len, uint64_t most)
 {
     uint64_t by = take(r, 1);
@@ -63,13 +67,16 @@ static uint64_t changed_length(recipe *r, uint64_t len, uint64_t most)
 static void change_case(recipe *r, test_case *c)
 {
     call_input *in = &c->in;
-    size_t contents = in->input_len < 100 ? in->input_len : 100; /* of a book, head and first entries */
+    size_t contents = in->input_len < 100 ? in->input_len : 100; /* of a book, head and entries */
     uint64_t place;
     switch (take(r, 1) % 11) {
     case 0: in->way = take(r, 8); break;
     case 1: in->out_len = changed_length(r, in->out_len, MAX_INPUT); break;
     case 2: in->input_len = changed_length(r, in->input_len, MAX_INPUT); break;
-    case 3: in->secret_len = call_has_secret(in->kind) ? changed_length(r, in->secret_len, MAX_SECRET) : take(r, 8); break;
+    case 3:
+        in->secret_len =
+            call_has_secret(in->kind) ? changed_length(r, in->secret_len, MAX_SECRET) : take(r, 8);
+        break;
     case 4: in->out_len = reference_output_length(in); break;
     case 5:
         place = take(r, 1); /* words have at most 224 bytes */
@@ -95,7 +102,8 @@ static void change_case(recipe *r, test_case *c)
     }
 }
 
-/* The rest of the recipe in place of the input; the output of a book, a note or a page follows in length. */
+/* The rest of the recipe in place of the input; the output of a book, a note or a page follows in
+ * length. */
 static void give_input(recipe *r, test_case *c)
 {
     size_t len = r->len < MAX_INPUT ? r->len : MAX_INPUT;
@@ -107,7 +115,8 @@ static void give_input(recipe *r, test_case *c)
     c->in.out_len = reference_output_length(&c->in);
 }
 
-/* One check or two that are made to fail, or none. Books and notes above the greatest length are not made, see LONG_INPUT. */
+/* One check or two that are made to fail, or none. Books and notes above the greatest length are
+ * not made, see LONG_INPUT. */
 static unsigned take_damages(recipe *r, call_kind kind)
 {
     unsigned damages = 1u << take(r, 1) % 16;
