@@ -1,8 +1,8 @@
 #!/bin/sh
-# The main job from end to end, on the plan beside this script: a key, a plan sealed in one step, its
-# digest compared, its labels, the plan opened again; a note sealed and opened. Then the steps one by
-# one, the planting page of a trial, and the book sealed by every way, and with a second book by the
-# C program of the README.
+# The main job from end to end, on the plan beside this script: a key, a plan sealed in one step,
+# its digest compared, its labels, the plan opened again; a note sealed and opened. Then the steps
+# one by one, the planting page of a trial, and the book sealed by every way, and with a second book
+# by the C program of the README.
 # usage: demo.sh COMMAND PROGRAM FOLDER
 #        the command planbook, the program seal_book, and a folder for the books
 set -eu
