@@ -98,12 +98,8 @@ static void check_answers(void)
 static void check_expanded_length(void)
 {
     static const size_t beyond[] = {
-        128, 160, 192, 224, 256, 256 + 16, 256 + 24, 256 + 32, 65536 + 16,
-        ((size_t)1 << 32) + 16,
-        ((size_t)1 << 32) + 24,
-        ((size_t)1 << 63) + 32,
-        SIZE_MAX,
-        SIZE_MAX - 15,
+        128, 160, 192, 224, 256, 256 + 16, 256 + 24, 256 + 32, 65536 + 16, ((size_t)1 << 32) + 16,
+        ((size_t)1 << 32) + 24, ((size_t)1 << 63) + 32, SIZE_MAX, SIZE_MAX - 15,
     };
     for (size_t len = 0; len <= 70; len++) {
         char name[80];
@@ -186,15 +182,8 @@ static void check_sheet_numbers(void)
 static void check_page_length(void)
 {
     static const uint64_t beyond[] = {
-        64,
-        65,
-        256,
-        65536,
-        UINT32_MAX,
-        (uint64_t)1 << 32,
-        ((uint64_t)1 << 32) + 63,
-        (uint64_t)1 << 61,
-        UINT64_MAX,
+        64, 65, 256, 65536, UINT32_MAX, (uint64_t)1 << 32, ((uint64_t)1 << 32) + 63,
+        (uint64_t)1 << 61, UINT64_MAX,
     }; /* 24 times 2^61 is 0 in 64 bits */
     contents[0] = CLEAR_BOOK;
     contents[3] = MAX_SHEETS;

@@ -406,8 +406,8 @@ void check_words(void)
         try_changed_bits(len);
     }
     printf("words: %" PRIu64 " that no key gives, with a block, a book and a note sealed and "
-           "opened by %d ways; under %" PRIu64 " of them, with one bit changed, a sealed book opens as "
-           "another\n",
+           "opened by %d ways; under %" PRIu64 " of them, with one bit changed, a sealed book "
+           "opens as another\n",
            tried, WAYS, open_as_others);
     check_prepared_words();
     check_equal_books();
