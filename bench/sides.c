@@ -66,7 +66,7 @@ struct given {
 
 /* The words by the side's own expanding, which have their room with the caller. */
 static struct given give(const struct calls *s, const uint8_t *key, size_t key_len, uint64_t way,
-                        uint8_t *words)
+                         uint8_t *words)
 {
     size_t len = planbook_expanded_length(key_len);
     if (s->takes_keys)
