@@ -166,12 +166,18 @@ static void expect_entry(size_t i, unsigned at, uint8_t value, const char *what)
     expect(refusal(9), what);
 }
 
+/* The byte to try after this one: each up to 16, and then, in a shorter run, with gaps. */
+static unsigned next_byte(unsigned byte)
+{
+    return byte < 16 ? byte + 1 : byte + (unsigned)(240 / scaled(240));
+}
+
 static void check_entries(void)
 {
     for (size_t i = 0; i < 3; i++) {
         expect_entry(i, 7, 1, "reserved byte of an entry");
         expect_entry(i, 7, 0x80, "reserved byte of an entry");
-        for (unsigned number = 9; number < 256; number++)
+        for (unsigned number = 9; number < 256; number = next_byte(number))
             expect_entry(i, 6, (uint8_t)number, "more than 8 replicates");
         new_book(3, 2);
         reference_store_word(entry(i), 0);
@@ -306,13 +312,13 @@ static void expect_replicate(size_t j, unsigned value, uint64_t answer, const ch
     record(3, j)[8] = 1;
 }
 
-/* Every replicate under every number that an entry may have. */
+/* Every replicate under every number that an entry may have; a shorter run leaves some out. */
 static void check_replicates(void)
 {
     static const uint8_t greatest[] = {4, 1, 2, 3, 4, 5, 6, 7, 8}; /* by the number in the entry */
     for (unsigned number = 0; number <= 8; number++) {
         new_book_of_replicates((uint8_t)number, (uint8_t)number, (uint8_t)number);
-        for (unsigned replicate = 0; replicate < 256; replicate++)
+        for (unsigned replicate = 0; replicate < 256; replicate = next_byte(replicate))
             expect_replicate(5, replicate,
                              replicate >= 1 && replicate <= greatest[number] ? 6 : refusal(11),
                              "replicate");
