@@ -20,8 +20,8 @@ struct calls {
     words_call *encrypt_block, *decrypt_block, *encrypt_book, *decrypt_book;
     note_call *crypt_note;
     page_call *page;
-    int takes_keys; /* in place of words: a library before 3.0.0, which expands the key in every
-                       call */
+    /* in place of words: a library before 3.0.0, which expands the key in every call */
+    int takes_keys;
 };
 
 /* bench/run has another name for it where an earlier library has no such call. */
@@ -49,13 +49,18 @@ int other_side_takes_keys(void)
     return sides[PLAIN].takes_keys;
 }
 
+static uint64_t refusal(uint32_t check)
+{
+    return (uint64_t)check << 32;
+}
+
 /* A side that takes keys takes any words for a key of a wrong length. */
 static int refuses_words(const struct calls *s)
 {
     static const uint8_t words[PLANBOOK_EXPANDED128_BYTES];
     uint8_t out[16];
     return s->encrypt_block(words, sizeof words, 1, words, 16, out, 16) ==
-           (uint64_t)PLANBOOK_CHECK_KEY_LENGTH << 32;
+           refusal(PLANBOOK_CHECK_KEY_LENGTH);
 }
 
 /* What a call is given first: words, or the key where the side takes keys. */
@@ -87,8 +92,7 @@ static void check_lengths(const struct calls *s)
     for (size_t len = 0; len <= sizeof any; len++) {
         int permitted = len == PLANBOOK_EXPANDED128_BYTES || len == PLANBOOK_EXPANDED192_BYTES ||
                         len == PLANBOOK_EXPANDED256_BYTES;
-        uint64_t answer = (uint64_t)(permitted ? PLANBOOK_CHECK_WAY : PLANBOOK_CHECK_WORDS_LENGTH)
-                          << 32;
+        uint64_t answer = refusal(permitted ? PLANBOOK_CHECK_WAY : PLANBOOK_CHECK_WORDS_LENGTH);
         int same = s->crypt_note(any, len, 0, any, 0, any, 0, out, 1) == answer;
         for (size_t i = 0; i < sizeof calls / sizeof calls[0]; i++)
             same &= calls[i](any, len, 0, any, 0, out, 1) == answer;
@@ -304,7 +308,7 @@ static int page_is_refused(const struct calls *s, size_t i)
     memcpy(book, page_book, sizeof book);
     book[refused_pages[i].at] = refused_pages[i].value;
     return s->page(book, refused_pages[i].len, refused_pages[i].sheet, out,
-                   refused_pages[i].out_len) == (uint64_t)refused_pages[i].check << 32 &&
+                   refused_pages[i].out_len) == refusal(refused_pages[i].check) &&
            memcmp(out, untouched, sizeof out) == 0;
 }
 
@@ -383,7 +387,7 @@ void check_rule(void)
     for (int side = 0; side < SIDES; side++)
         for (size_t i = 0; i < sizeof judged / sizeof judged[0]; i++)
             if (!judges_so(&sides[side], judged[i].record,
-                           judged[i].holds ? 1 : (uint64_t)PLANBOOK_CHECK_RECORD << 32))
+                           judged[i].holds ? 1 : refusal(PLANBOOK_CHECK_RECORD)))
                 stop("a side does not keep the rule of records");
 }
 
