@@ -28,14 +28,6 @@ quiet() {
     return 1
 }
 
-# The names of the fuzz targets, tests/fuzz/NAME_fuzzer.c.
-fuzz_targets() {
-    for target in tests/fuzz/*_fuzzer.c; do
-        name=${target#tests/fuzz/}
-        echo "${name%_fuzzer.c}"
-    done
-}
-
 # The shell scripts of the project: those named so, and those whose first line asks for a shell.
 shell_scripts() {
     find .ci bench cli examples tests tools -type f 2>/dev/null | LC_ALL=C sort |
