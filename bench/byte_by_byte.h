@@ -76,8 +76,8 @@ INLINE uint32_t row(struct quad s, uint32_t m0, uint32_t m1, uint32_t m2, uint32
 /* The matrix with entry m(i ^ j) at row i, column j, times four substituted bytes. */
 INLINE uint32_t mixed(struct quad s, uint32_t m0, uint32_t m1, uint32_t m2, uint32_t m3)
 {
-    return row(s, m0, m1, m2, m3) << 24 | row(s, m1, m0, m3, m2) << 16
-         | row(s, m2, m3, m0, m1) << 8 | row(s, m3, m2, m1, m0);
+    return row(s, m0, m1, m2, m3) << 24 | row(s, m1, m0, m3, m2) << 16 |
+           row(s, m2, m3, m0, m1) << 8 | row(s, m3, m2, m1, m0);
 }
 
 /* A number in a field, from its last digit on, and a space wherever no digit is left. */

@@ -93,8 +93,8 @@ static double growth(const struct limit *l)
     for (size_t i = 0; i < GROWTH_SIZES; i++) {
         struct measured below = l->below;
         below.blocks = growth_records[i];
-        double ratio = median_ratio(times(&l->above, 16), times(&below, 16))
-                     * (double)below.blocks / (double)l->above.blocks;
+        double ratio = median_ratio(times(&l->above, 16), times(&below, 16)) *
+                       (double)below.blocks / (double)l->above.blocks;
         worst = fmax(worst, fmax(ratio, 1 / ratio));
     }
     return worst;

@@ -60,7 +60,9 @@ static void store_words(uint8_t *out, const uint32_t *words, size_t count)
 }
 
 /* Four branches of the network, or one block. */
-struct quad { uint32_t a, b, c, d; };
+struct quad {
+    uint32_t a, b, c, d;
+};
 
 INLINE struct quad load_quad(const uint8_t *p)
 {
@@ -107,8 +109,8 @@ INLINE uint32_t s0_by_rules(uint32_t x)
 
 INLINE uint32_t look_up(const uint32_t tables[4][256], uint32_t x)
 {
-    return tables[3][(uint8_t)x] ^ tables[2][(uint8_t)(x >> 8)]
-         ^ tables[1][(uint8_t)(x >> 16)] ^ tables[0][x >> 24];
+    return tables[3][(uint8_t)x] ^ tables[2][(uint8_t)(x >> 8)] ^ tables[1][(uint8_t)(x >> 16)] ^
+           tables[0][x >> 24];
 }
 
 INLINE uint32_t f0(int way, uint32_t key, uint32_t x)
@@ -271,8 +273,8 @@ INLINE struct quad double_swap(struct quad t)
     uint64_t high = (uint64_t)t.a << 32 | t.b, low = (uint64_t)t.c << 32 | t.d;
     uint64_t new_high = high << 7 | (low & 0x7f);
     uint64_t new_low = high >> 57 << 57 | low >> 7;
-    return (struct quad){(uint32_t)(new_high >> 32), (uint32_t)new_high,
-                         (uint32_t)(new_low >> 32), (uint32_t)new_low};
+    return (struct quad){(uint32_t)(new_high >> 32), (uint32_t)new_high, (uint32_t)(new_low >> 32),
+                         (uint32_t)new_low};
 }
 
 INLINE void put_quad(uint32_t *words, struct quad t)
@@ -429,8 +431,8 @@ INLINE void decrypt(int way, const struct schedule *s, struct quad *c, int lanes
 
 /* CBC chains. */
 
-INLINE void encrypt_chain(int way, const struct schedule *s, const uint8_t *iv,
-                          const uint8_t *in, uint8_t *out, size_t blocks)
+INLINE void encrypt_chain(int way, const struct schedule *s, const uint8_t *iv, const uint8_t *in,
+                          uint8_t *out, size_t blocks)
 {
     struct quad chain = load_quad(iv);
     for (size_t i = 0; i < blocks; i++) {
@@ -455,8 +457,8 @@ INLINE struct quad decrypt_next(int way, const struct schedule *s, struct quad c
     return chain;
 }
 
-INLINE void decrypt_chain(int way, const struct schedule *s, const uint8_t *iv,
-                          const uint8_t *in, uint8_t *out, size_t blocks)
+INLINE void decrypt_chain(int way, const struct schedule *s, const uint8_t *iv, const uint8_t *in,
+                          uint8_t *out, size_t blocks)
 {
     struct quad chain = load_quad(iv);
     for (; blocks >= PARALLEL; blocks -= PARALLEL, in += PARALLEL * BLOCK, out += PARALLEL * BLOCK)
@@ -471,8 +473,8 @@ INLINE void decrypt_chain(int way, const struct schedule *s, const uint8_t *iv,
  */
 
 /* The next whole blocks. The counter's last word counts, and goes on at zero. */
-INLINE void crypt_next(int way, const struct schedule *s, struct quad *counter,
-                       const uint8_t *in, uint8_t *out, int lanes)
+INLINE void crypt_next(int way, const struct schedule *s, struct quad *counter, const uint8_t *in,
+                       uint8_t *out, int lanes)
 {
     struct quad t[PARALLEL];
     for (int i = 0; i < lanes; i++) {
@@ -580,8 +582,8 @@ static int check_words_and_way(size_t words_len, uint64_t way)
 static int entry_holds(const uint8_t *entry, uint32_t trial_before)
 {
     uint32_t count = load_word(entry + 4) >> 16;
-    return load_word(entry) > trial_before && count >= 1 && count <= MOST_RECORDS
-        && entry[6] <= MOST_REPLICATES && entry[7] == 0;
+    return load_word(entry) > trial_before && count >= 1 && count <= MOST_RECORDS &&
+           entry[6] <= MOST_REPLICATES && entry[7] == 0;
 }
 
 /* Checks 5 to 10; n and the sum of the record counts are handed back. */
@@ -659,8 +661,8 @@ uint64_t plain_constants(uint64_t key_length, uint8_t *out, size_t out_len)
     return count;
 }
 
-uint64_t plain_expand_key(const uint8_t *key, size_t key_len, uint64_t way,
-                          uint8_t *out, size_t out_len)
+uint64_t plain_expand_key(const uint8_t *key, size_t key_len, uint64_t way, uint8_t *out,
+                          size_t out_len)
 {
     int failed = check_key_and_way(key_len, way);
     if (failed)
@@ -689,15 +691,13 @@ static uint64_t block_call(one_call *work, const uint8_t *words, size_t words_le
 }
 
 uint64_t plain_encrypt_block(const uint8_t *words, size_t words_len, uint64_t way,
-                             const uint8_t *block, size_t block_len,
-                             uint8_t *out, size_t out_len)
+                             const uint8_t *block, size_t block_len, uint8_t *out, size_t out_len)
 {
     return block_call(encrypt_one_by, words, words_len, way, block, block_len, out, out_len);
 }
 
 uint64_t plain_decrypt_block(const uint8_t *words, size_t words_len, uint64_t way,
-                             const uint8_t *block, size_t block_len,
-                             uint8_t *out, size_t out_len)
+                             const uint8_t *block, size_t block_len, uint8_t *out, size_t out_len)
 {
     return block_call(decrypt_one_by, words, words_len, way, block, block_len, out, out_len);
 }
@@ -729,8 +729,7 @@ static void chain_sheets(chain_call *chain, uint64_t way, const uint8_t *words, 
 }
 
 uint64_t plain_encrypt_book(const uint8_t *words, size_t words_len, uint64_t way,
-                            const uint8_t *book, size_t book_len,
-                            uint8_t *out, size_t out_len)
+                            const uint8_t *book, size_t book_len, uint8_t *out, size_t out_len)
 {
     size_t n, records;
     int failed = check_book(words_len, way, CLEAR, book, book_len, out_len, &n, &records);
@@ -752,8 +751,7 @@ uint64_t plain_encrypt_book(const uint8_t *words, size_t words_len, uint64_t way
  * clear plan is not left on the stack.
  */
 uint64_t plain_decrypt_book(const uint8_t *words, size_t words_len, uint64_t way,
-                            const uint8_t *book, size_t book_len,
-                            uint8_t *out, size_t out_len)
+                            const uint8_t *book, size_t book_len, uint8_t *out, size_t out_len)
 {
     uint8_t work[MOST_BYTES];
     size_t n, records;
@@ -773,9 +771,8 @@ uint64_t plain_decrypt_book(const uint8_t *words, size_t words_len, uint64_t way
 }
 
 uint64_t plain_crypt_note(const uint8_t *words, size_t words_len, uint64_t way,
-                          const uint8_t *counter, size_t counter_len,
-                          const uint8_t *note, size_t note_len,
-                          uint8_t *out, size_t out_len)
+                          const uint8_t *counter, size_t counter_len, const uint8_t *note,
+                          size_t note_len, uint8_t *out, size_t out_len)
 {
     int failed = check_words_and_way(words_len, way);
     if (failed)
@@ -836,8 +833,8 @@ INLINE uint64_t page_call(line_writer *write_line, const uint8_t *book, size_t b
     return count + 1;
 }
 
-uint64_t plain_page(const uint8_t *book, size_t book_len, uint64_t sheet,
-                    uint8_t *out, size_t out_len)
+uint64_t plain_page(const uint8_t *book, size_t book_len, uint64_t sheet, uint8_t *out,
+                    size_t out_len)
 {
     return page_call(put_line, book, book_len, sheet, out, out_len);
 }
@@ -855,8 +852,8 @@ static void print_line(const uint8_t *record, uint8_t *line)
     memcpy(line, text, LINE);
 }
 
-uint64_t printed_page(const uint8_t *book, size_t book_len, uint64_t sheet,
-                      uint8_t *out, size_t out_len)
+uint64_t printed_page(const uint8_t *book, size_t book_len, uint64_t sheet, uint8_t *out,
+                      size_t out_len)
 {
     return page_call(print_line, book, book_len, sheet, out, out_len);
 }

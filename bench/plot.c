@@ -36,8 +36,8 @@ static void line_at(const struct panel *p, double value, const char *style)
 {
     char label[32];
     double y = p->top + CHART - height_of(p, value);
-    fprintf(p->file, "<line x1=\"%d\" x2=\"%d\" y1=\"%.1f\" y2=\"%.1f\" %s/>\n",
-            LEFT, WIDTH - 20, y, y, style);
+    fprintf(p->file, "<line x1=\"%d\" x2=\"%d\" y1=\"%.1f\" y2=\"%.1f\" %s/>\n", LEFT, WIDTH - 20,
+            y, y, style);
     snprintf(label, sizeof label, "%g", value);
     text(p->file, LEFT - 6, y + 4, "text-anchor=\"end\"", label);
 }
@@ -155,9 +155,11 @@ int plot(const char *path, const struct scale *scales, size_t scale_count)
     FILE *f = fopen(path, "w");
     if (f == NULL)
         return 0;
-    fprintf(f, "<svg xmlns=\"http://www.w3.org/2000/svg\" viewBox=\"0 0 %d %d\" "
-               "font-family=\"sans-serif\" font-size=\"12\">\n"
-               "<rect width=\"%d\" height=\"%d\" fill=\"white\"/>\n", WIDTH, HEIGHT, WIDTH, HEIGHT);
+    fprintf(f,
+            "<svg xmlns=\"http://www.w3.org/2000/svg\" viewBox=\"0 0 %d %d\" "
+            "font-family=\"sans-serif\" font-size=\"12\">\n"
+            "<rect width=\"%d\" height=\"%d\" fill=\"white\"/>\n",
+            WIDTH, HEIGHT, WIDTH, HEIGHT);
     draw_ratios(f);
     draw_times(f, scales, scale_count);
     fprintf(f, "</svg>\n");

@@ -120,7 +120,8 @@ static void print_scales(const struct scale *scales, size_t scale_count)
         return;
     }
     printf("| OpenSSL, one chain of %d blocks | encrypt, ns a block | decrypt, ns a block |\n"
-           "|---|---:|---:|\n", LARGEST_BOOK);
+           "|---|---:|---:|\n",
+           LARGEST_BOOK);
     for (size_t i = 0; i < scale_count; i++)
         printf("| %s | %.1f | %.1f |\n", scales[i].name, scales[i].encrypt_ns,
                scales[i].decrypt_ns);

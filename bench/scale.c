@@ -16,12 +16,13 @@ static double time_openssl(const EVP_CIPHER *cipher, int encrypting)
     static uint8_t in[16 * LARGEST_BOOK], out[sizeof in];
     static const uint8_t key[16], iv[16];
     EVP_CIPHER_CTX *context = EVP_CIPHER_CTX_new();
-    int len, ok = context != NULL && EVP_CipherInit_ex(context, cipher, NULL, key, iv, encrypting)
-               && EVP_CIPHER_CTX_set_padding(context, 0);
+    int len, ok = context != NULL &&
+                  EVP_CipherInit_ex(context, cipher, NULL, key, iv, encrypting) &&
+                  EVP_CIPHER_CTX_set_padding(context, 0);
     for (int turn = -WARM_UP_TURNS; turn < turns && ok; turn++) {
         double start = now_ns();
-        ok = EVP_CipherInit_ex(context, NULL, NULL, NULL, iv, encrypting)
-          && EVP_CipherUpdate(context, out, &len, in, sizeof in);
+        ok = EVP_CipherInit_ex(context, NULL, NULL, NULL, iv, encrypting) &&
+             EVP_CipherUpdate(context, out, &len, in, sizeof in);
         if (turn >= 0)
             ns[turn] = now_ns() - start;
     }

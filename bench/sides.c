@@ -4,13 +4,13 @@
 
 #include <string.h>
 
-typedef uint64_t expand_call(const uint8_t *key, size_t key_len, uint64_t way,
-                             uint8_t *out, size_t out_len);
-typedef uint64_t words_call(const uint8_t *words, size_t words_len, uint64_t way,
-                            const uint8_t *in, size_t in_len, uint8_t *out, size_t out_len);
+typedef uint64_t expand_call(const uint8_t *key, size_t key_len, uint64_t way, uint8_t *out,
+                             size_t out_len);
+typedef uint64_t words_call(const uint8_t *words, size_t words_len, uint64_t way, const uint8_t *in,
+                            size_t in_len, uint8_t *out, size_t out_len);
 typedef uint64_t note_call(const uint8_t *words, size_t words_len, uint64_t way,
-                           const uint8_t *counter, size_t counter_len,
-                           const uint8_t *note, size_t note_len, uint8_t *out, size_t out_len);
+                           const uint8_t *counter, size_t counter_len, const uint8_t *note,
+                           size_t note_len, uint8_t *out, size_t out_len);
 typedef uint64_t page_call(const uint8_t *book, size_t book_len, uint64_t sheet, uint8_t *out,
                            size_t out_len);
 
@@ -123,9 +123,9 @@ static void check_vectors(const struct calls *s)
         for (uint64_t way = 1; way <= WAYS; way++) {
             uint8_t words[PLANBOOK_MAX_EXPANDED_BYTES], out[16], back[16];
             struct given w = give(s, vector_key, 16 + 8 * k, way, words);
-            if (s->encrypt_block(w.bytes, w.len, way, vector_clear, 16, out, 16) != 1
-                || s->decrypt_block(w.bytes, w.len, way, out, 16, back, 16) != 1
-                || memcmp(out, vector_encrypted[k], 16) != 0 || memcmp(back, vector_clear, 16) != 0)
+            if (s->encrypt_block(w.bytes, w.len, way, vector_clear, 16, out, 16) != 1 ||
+                s->decrypt_block(w.bytes, w.len, way, out, 16, back, 16) != 1 ||
+                memcmp(out, vector_encrypted[k], 16) != 0 || memcmp(back, vector_clear, 16) != 0)
                 stop("a side does not give the published test vectors");
         }
 }
@@ -161,9 +161,9 @@ static void check_note(const struct calls *s)
     make_note(note, LEN);
     for (uint64_t way = 1; way <= WAYS; way++) {
         struct given w = give(s, vector_key, 16, way, words);
-        if (s->crypt_note(w.bytes, w.len, way, vector_counter, 16, note, LEN, out, LEN) != LEN
-            || s->crypt_note(w.bytes, w.len, way, vector_counter, 16, out, LEN, back, LEN) != LEN
-            || memcmp(out, vector_note, LEN) != 0 || memcmp(back, note, LEN) != 0)
+        if (s->crypt_note(w.bytes, w.len, way, vector_counter, 16, note, LEN, out, LEN) != LEN ||
+            s->crypt_note(w.bytes, w.len, way, vector_counter, 16, out, LEN, back, LEN) != LEN ||
+            memcmp(out, vector_note, LEN) != 0 || memcmp(back, note, LEN) != 0)
             stop("a side does not give the note's vector");
     }
 }
@@ -174,9 +174,8 @@ static void check_constants(void)
         static const size_t words[KEY_LENGTHS] = {60, 84, 92};
         uint8_t ours[368], theirs[368];
         size_t len = 4 * words[k];
-        if (planbook_constants(16 + 8 * k, ours, len) != words[k]
-            || plain_constants(16 + 8 * k, theirs, len) != words[k]
-            || memcmp(ours, theirs, len) != 0)
+        if (planbook_constants(16 + 8 * k, ours, len) != words[k] ||
+            plain_constants(16 + 8 * k, theirs, len) != words[k] || memcmp(ours, theirs, len) != 0)
             stop("the sides differ in the constants");
     }
 }
@@ -194,7 +193,9 @@ static uint32_t trial_of(size_t sheet)
     return (uint32_t)(41 + 10 * sheet);
 }
 
-struct record { uint32_t trial, entry, replicate, row, column, last; };
+struct record {
+    uint32_t trial, entry, replicate, row, column, last;
+};
 
 static void put_record(uint8_t *p, struct record r)
 {
@@ -264,10 +265,9 @@ static size_t make_books(uint8_t *books, const uint8_t start_blocks[][16])
 /* Held to two pages that were typed out, and to the checks and their order. */
 
 static const uint8_t page_book[100] = {
-    1, 0, 0, 2, 0, 0, 0, 41, 0, 2, [28] = 0, 0, 0, 42, 0, 1,
-    [52] = 0, 0, 0, 41, 0, 0, 0, 7, 2, 0, 12, 0, 3,
-    [68] = 0, 0, 0, 41, 255, 255, 255, 255, 4, 3, 231, 3, 231,
-    [84] = 0, 0, 0, 42, 0, 0, 1, 0, 1,
+    1,   0,   0,   2, 0, 0,   0, 41,  0,        2,  [28] = 0, 0,  0,        42, 0, 1,  [52] = 0,
+    0,   0,   41,  0, 0, 0,   7, 2,   0,        12, 0,        3,  [68] = 0, 0,  0, 41, 255,
+    255, 255, 255, 4, 3, 231, 3, 231, [84] = 0, 0,  0,        42, 0,        0,  1, 0,  1,
 };
 static const char *const page_texts[] = {
     "     TRIAL      ENTRY R ROW COL\n"
@@ -319,8 +319,8 @@ static void check_page(const struct calls *s)
         return;
     for (size_t sheet = 0; sheet < 2; sheet++) {
         size_t len = strlen(page_texts[sheet]);
-        if (s->page(page_book, sizeof page_book, sheet, out, len) != len / PLANBOOK_LINE_BYTES
-            || memcmp(out, page_texts[sheet], len) != 0)
+        if (s->page(page_book, sizeof page_book, sheet, out, len) != len / PLANBOOK_LINE_BYTES ||
+            memcmp(out, page_texts[sheet], len) != 0)
             stop("a side does not give a page that was typed out");
     }
     for (size_t i = 0; i < sizeof refused_pages / sizeof refused_pages[0]; i++)
@@ -457,8 +457,8 @@ static void make_words_ready(const struct task *t)
     size_t len = planbook_expanded_length(t->key_len);
     for (int side = 0; side < SIDES && len > 0; side++) {
         given[side].first = sides[side].takes_keys
-                               ? (struct given){drawn_keys[0], t->key_len}
-                               : (struct given){drawn_words[t->key_len / 8 - 2][0], len};
+                                ? (struct given){drawn_keys[0], t->key_len}
+                                : (struct given){drawn_words[t->key_len / 8 - 2][0], len};
         given[side].stride =
             sides[side].takes_keys ? sizeof drawn_keys[0] : sizeof drawn_words[0][0];
     }
@@ -505,8 +505,7 @@ uint64_t call(const struct task *t, enum side side, size_t number)
     size_t words_len = given[side].first.len;
     uint8_t *out = output[side];
     switch (t->kind) {
-    case EXPAND_KEY:
-        return s->expand_key(key, t->key_len, t->way, out, output_len);
+    case EXPAND_KEY: return s->expand_key(key, t->key_len, t->way, out, output_len);
     case ENCRYPT_BLOCK:
         return s->encrypt_block(words, words_len, t->way, block, input_len, out, output_len);
     case DECRYPT_BLOCK:
@@ -516,10 +515,8 @@ uint64_t call(const struct task *t, enum side side, size_t number)
     case DECRYPT_BOOK: /* opens under the words that sealed it */
         return s->decrypt_book(first, words_len, t->way, input, input_len, out, output_len);
     case BOOKS_EACH:
-    case BOOKS_ONCE:
-        return seal_books(t, s, key, out);
-    case PAGE:
-        return s->page(input, input_len, 0, out, output_len);
+    case BOOKS_ONCE: return seal_books(t, s, key, out);
+    case PAGE: return s->page(input, input_len, 0, out, output_len);
     default:
         return s->crypt_note(words, words_len, t->way, vector_counter, 16, input, input_len, out,
                              output_len);

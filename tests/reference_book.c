@@ -452,14 +452,9 @@ static uint64_t accepted(const call_input *in, uint8_t *out)
         return write_expanded_key(in, out);
     reference_load_words(&words, in->secret, in->secret_len);
     switch (in->kind) {
-    case CALL_ENCRYPT_BLOCK:
-        reference_encrypt_block(&words, in->input, out);
-        return 1;
-    case CALL_CRYPT_NOTE:
-        return crypt_note(&words, in, out);
-    default:
-        reference_decrypt_block(&words, in->input, out);
-        return 1;
+    case CALL_ENCRYPT_BLOCK: reference_encrypt_block(&words, in->input, out); return 1;
+    case CALL_CRYPT_NOTE: return crypt_note(&words, in, out);
+    default: reference_decrypt_block(&words, in->input, out); return 1;
     }
 }
 
