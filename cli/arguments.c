@@ -30,7 +30,7 @@ static void print_synopsis(struct text *to, const struct verb *verb)
 {
     text_print(to, "planbook %s", verb->name);
     if (verb->takes[KEY])
-        text_print(to, verb->needs_key ? " --key FILE | --key-hex FILE" : " [--key FILE | --key-hex FILE]");
+        text_print(to, verb->needs_key != NO_KEY ? " --key FILE | --key-hex FILE" : " [--key FILE | --key-hex FILE]");
     if (verb->takes[COUNTER])
         text_print(to, " %s %s", options[COUNTER].name, options[COUNTER].value);
     for (size_t i = WAY; i < OPTIONS; i++)
@@ -108,7 +108,7 @@ static const struct verb *find_verb(const struct verb *verbs, size_t count, cons
     for (size_t i = 0; i < count; i++)
         if (strcmp(verbs[i].name, name) == 0)
             return &verbs[i];
-    fail("%s is not a verb; planbook help lists them", name);
+    fail("%s is not a verb; planbook help lists them", shown(name));
 }
 
 static bool asks_for_help(const char *word)
@@ -135,7 +135,7 @@ static int take_option(const struct verb *verb, struct arguments *given, char **
     size_t len = equals != NULL ? (size_t)(equals - words[0]) : strlen(words[0]);
     size_t i = find_option(words[0], len);
     if (i == OPTIONS || !verb->takes[i])
-        fail("%s has no option %.*s; planbook %s --help lists them", verb->name, (int)len, words[0], verb->name);
+        fail("%s has no option %s; planbook %s --help lists them", verb->name, shown(words[0]), verb->name);
     if (given->value[i] != NULL)
         fail("%s is given twice", options[i].name);
     if (options[i].value == NULL && equals != NULL)
@@ -150,8 +150,9 @@ static void expect_key(const struct verb *verb, const struct arguments *given)
 {
     if (given->value[KEY] != NULL && given->value[KEY_HEX] != NULL)
         fail("--key and --key-hex are both given, but a key is read from one file");
-    if (verb->needs_key && given->value[KEY] == NULL && given->value[KEY_HEX] == NULL)
-        fail("%s needs a key, by either --key or --key-hex; planbook keygen makes one", verb->name);
+    if (verb->needs_key != NO_KEY && given->value[KEY] == NULL && given->value[KEY_HEX] == NULL)
+        fail("%s needs a key, by either --key or --key-hex%s", verb->name,
+             verb->needs_key == ANY_KEY ? "; planbook keygen makes one" : "");
 }
 
 static void expect_counter(const struct verb *verb, const struct arguments *given)
@@ -178,7 +179,7 @@ static bool read_words(const struct verb *verb, char **words, struct arguments *
             words += take_option(verb, given, words);
         } else {
             if (count == verb->most_words)
-                fail("%s is one word too many: %s takes %s", *words, verb->name, verb->words);
+                fail("%s is one word too many: %s takes %s", shown(*words), verb->name, verb->words);
             given->words[count++] = *words++;
         }
     }
@@ -192,7 +193,7 @@ static bool read_words(const struct verb *verb, char **words, struct arguments *
 static void expect_end(char **words)
 {
     if (words[1] != NULL)
-        fail("%s is one word too many after %s", words[1], words[0]);
+        fail("%s is one word too many after %s", shown(words[1]), words[0]);
 }
 
 /* Words that are no verb of the table; answers whether the first was one of them. */

@@ -49,13 +49,16 @@ struct arguments {
     const char *words[MAX_WORDS];
 };
 
+/* For a new book a key can be made. An old book or note needs its own. */
+enum key_need { NO_KEY, ITS_OWN_KEY, ANY_KEY };
+
 struct verb {
     const char *name;
     const char *words; /* as the usage shows them */
     const char *summary;
     void (*run)(const struct arguments *given);
     bool takes[OPTIONS]; /* a counter block is needed where it is taken */
-    bool needs_key;
+    enum key_need needs_key;
     size_t least_words, most_words;
 };
 
@@ -108,6 +111,12 @@ void end_group(void);
 /* The end of all groups: if there was a fault, exits with status 2, or 1 where the library refused and the form was good. */
 void end_reports(void);
 
+/* An argument of the command line as a message shows it; where it may be a key, words that say so. */
+const char *shown(const char *argument);
+
+/* The same for a field of a CSV text: in quotes, and cut where it is long. One in a message. */
+const char *shown_field(struct bytes field);
+
 /* A number with a comma before every three digits. At most four of them in one message. */
 const char *grouped(size_t number);
 
@@ -128,7 +137,8 @@ void release_all(void);
 
 bool is_standard(const char *name); /* null or "-": standard input or output */
 
-const char *input_title(const char *name); /* for messages */
+/* What messages call it. */
+const char *input_title(const char *name);
 
 /* The whole input, but never more than limit + 1 bytes: a caller sees by the length that there was too much. */
 struct bytes read_input(const char *name, size_t limit);
@@ -161,6 +171,9 @@ void write_outputs(const struct output *outputs, size_t count);
 
 /* key.c */
 
+/* A key file has at most so many bytes: what is longer is no key, and the rest of it is not read. */
+#define KEY_FILE_LIMIT 4096
+
 struct bytes read_key(const char *name);
 struct bytes read_hex_key(const char *name);
 
@@ -169,6 +182,9 @@ int hex_digit(int c);
 
 /* Exactly 2 * len hexadecimal digits become len bytes; answers whether they are that. */
 bool read_hex(struct bytes digits, uint8_t *at, size_t len);
+
+/* Why a text that read_hex has turned down is not the hexadecimal digits wanted: how many there are, or which byte is none. */
+const char *hex_fault(struct bytes text);
 
 /* Unpredictable bytes from the system. */
 void draw_random(uint8_t *at, size_t len);
@@ -294,9 +310,6 @@ void csv_print_header(struct text *text, const char *const *columns, size_t coun
 /* Whether a text says that it is UTF-16, which is not read. */
 bool is_utf16(struct bytes text);
 
-/* A field as a message shows it: in quotes, cut where it is long. One in a message. */
-const char *csv_found(struct bytes field);
-
 /* lines.c */
 
 /* A line as read: a record for the plan; for the file of trials a trial, which stands in the record, and what belongs to it. */
@@ -387,8 +400,9 @@ struct bytes text_end(struct text *text);
 
 /* tables.c and json.c */
 
-struct bytes show_table(struct bytes book);
-struct bytes show_json(struct bytes book);
+/* Whether the book was opened for this is said too. */
+struct bytes show_table(struct bytes book, bool opened);
+struct bytes show_json(struct bytes book, bool opened);
 struct bytes labels_table(struct bytes book);
 struct bytes labels_json(struct bytes book);
 struct bytes record_table(const struct sheet *sheet, size_t place);

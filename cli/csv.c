@@ -11,22 +11,7 @@
 #include <string.h>
 #include <strings.h>
 
-#define MOST_SHOWN 40
 #define ABSENT SIZE_MAX
-
-const char *csv_found(struct bytes field)
-{
-    static char text[4 * MOST_SHOWN + 8];
-    char *to = text;
-    *to++ = '"';
-    for (size_t i = 0; i < field.len && i < MOST_SHOWN; i++)
-        if (field.at[i] == '\0')
-            to += sprintf(to, "\\x00"); /* the others are escaped with the whole message */
-        else
-            *to++ = (char)field.at[i];
-    strcpy(to, field.len > MOST_SHOWN ? "..\"" : "\"");
-    return text;
-}
 
 /* A carriage return belongs to the end of a line only there. */
 static bool at_line_end(const struct csv *csv)
@@ -152,7 +137,7 @@ bool csv_take_number(const struct csv *csv, size_t column, const char *title, ui
     bool good = csv_number(csv, column, most, number);
     if (!good)
         report(PLANBOOK_ACCEPTED, "%s, line %zu: the %s %s is not a number from 0 to %u", csv->name, csv->line, title,
-               csv_found(csv_field(csv, column)), (unsigned)named);
+               shown_field(csv_field(csv, column)), (unsigned)named);
     return good;
 }
 
@@ -170,8 +155,13 @@ static uint8_t find_separator(const struct csv *csv)
     return ',';
 }
 
+/* Spaces around it do not count. */
 static bool has_name(struct bytes field, const char *name)
 {
+    while (field.len > 0 && field.at[field.len - 1] == ' ')
+        field.len--;
+    while (field.len > 0 && field.at[0] == ' ')
+        field.at++, field.len--;
     return field.len == strlen(name) && strncasecmp((const char *)field.at, name, field.len) == 0;
 }
 
@@ -197,17 +187,17 @@ static void refuse_misspelt(const struct csv *csv, const char *name)
 {
     for (size_t i = 0; i < csv->field_count; i++)
         if (resembles(csv->fields[i], name))
-            fail("%s, line 1: the column %s is not known; if it is meant as \"%s\", name it so", csv->name, csv_found(csv->fields[i]),
+            fail("%s, line 1: the column %s is not known; if it is meant as \"%s\", name it so", csv->name, shown_field(csv->fields[i]),
                  name);
 }
 
+/* The text may be anything, a key too: nothing of it is shown. */
 static void refuse_without(const struct csv *csv, const char *const *columns, size_t count, size_t column)
 {
     char names[128] = "";
     for (size_t i = 0; i < count; i++)
         snprintf(names + strlen(names), sizeof names - strlen(names), "%s%s", i > 0 ? "," : "", columns[i]);
-    fail("%s, line 1: there is no column \"%s\" in the header, which begins with %s; the columns are %s", csv->name, columns[column],
-         csv_found(csv->fields[0]), names);
+    fail("%s, line 1: there is no column \"%s\" in the header; the columns are %s", csv->name, columns[column], names);
 }
 
 /* Where the column stands, or that it is absent. */
@@ -229,7 +219,7 @@ static void warn_of_others(const struct csv *csv, size_t count)
         for (size_t column = 0; column < count; column++)
             used |= csv->place[column] == i;
         if (!used)
-            warn("%s, line 1: the column %s is not used", csv->name, csv_found(csv->fields[i]));
+            warn("%s, line 1: the column %s is not used", csv->name, shown_field(csv->fields[i]));
     }
 }
 

@@ -20,7 +20,7 @@ bool is_standard(const char *name)
 
 const char *input_title(const char *name)
 {
-    return is_standard(name) ? "standard input" : name;
+    return is_standard(name) ? "standard input" : shown(name);
 }
 
 /* A terminal or pipe may be input and output at once: only a regular file would be lost. */
@@ -42,7 +42,7 @@ static int open_input(const char *name)
     }
     int fd = open(name, O_RDONLY | O_CLOEXEC);
     if (fd < 0)
-        fail("cannot open %s: %s", name, strerror(errno));
+        fail("cannot open %s: %s", shown(name), strerror(errno));
     return fd;
 }
 

@@ -30,13 +30,14 @@ static void print_contents(struct text *to, const struct sheet *sheets, size_t n
     text_print(to, " ]");
 }
 
-struct bytes show_json(struct bytes book)
+struct bytes show_json(struct bytes book, bool opened)
 {
     struct sheet sheets[PLANBOOK_MAX_SHEETS];
     size_t n = read_sheets(book, sheets);
     bool sealed = book.at[0] == PLANBOOK_SEALED;
     struct text text = {{NULL, 0}, 0};
-    text_print(&text, "{\"kind\": \"%s\", \"bytes\": %zu,\n", sealed ? "sealed" : "clear", book.len);
+    text_print(&text, "{\"kind\": \"%s\", \"opened\": %s, \"bytes\": %zu,\n", sealed ? "sealed" : "clear",
+               opened ? "true" : "false", book.len);
     print_contents(&text, sheets, n);
     if (!sealed) {
         text_print(&text, ",\n \"records\": [\n");

@@ -3,11 +3,9 @@
 #include "cli.h"
 
 #include <errno.h>
+#include <stdio.h>
 #include <string.h>
 #include <sys/random.h>
-
-/* Far above any key: what is longer is no key file, and the rest of it need not be read. */
-#define KEY_FILE_LIMIT 4096
 
 int hex_digit(int c)
 {
@@ -30,6 +28,19 @@ bool read_hex(struct bytes digits, uint8_t *at, size_t len)
             at[i] = (uint8_t)(high << 4 | low);
     }
     return good;
+}
+
+const char *hex_fault(struct bytes text)
+{
+    static char fault[64];
+    size_t digits = 0;
+    while (digits < text.len && hex_digit(text.at[digits]) >= 0)
+        digits++;
+    if (digits == text.len)
+        snprintf(fault, sizeof fault, "there are %zu", digits);
+    else
+        snprintf(fault, sizeof fault, "byte %zu is none", digits + 1);
+    return fault;
 }
 
 /* Digits and nothing else, but for the end of a line. */
@@ -61,7 +72,7 @@ struct bytes read_hex_key(const char *name)
 {
     struct bytes text = read_secret_input(name, KEY_FILE_LIMIT);
     if (text.len > KEY_FILE_LIMIT)
-        fail("%s: too long for a key", input_title(name));
+        fail("the key in %s is more than %s bytes long, and a key has 32, 48 or 64 digits", input_title(name), grouped(KEY_FILE_LIMIT));
     if (text.len > 0 && text.at[text.len - 1] == '\n')
         text.len--;
     for (size_t i = 0; i < text.len; i++)

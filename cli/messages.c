@@ -1,6 +1,16 @@
 /*
- * Messages go to standard error, one line each, with the command's name before them. Names and fields in them may come from
- * anybody, so control characters are shown escaped: a message cannot move the cursor or pretend to be two.
+ * Messages go to standard error, one line each, with the command's name before them. From there they get into logs and
+ * screenshots, so none may show a key or a clear record, which may have been given by mistake for something else. This is the
+ * rule for all that a message shows of what the user has given:
+ *
+ * - Of a file nothing is shown before it is known to be what it should be. Fields are shown of a CSV text whose header has all
+ *   columns that it needs, and numbers of a book that begins as a book does.
+ * - Of such a field, and of an argument of the command line, nothing is shown if it may be a key: if it has 16 hexadecimal
+ *   digits in a row, which are half of the shortest key, or bytes that are no printable text, as raw keys have.
+ * - Counter blocks, labels and start blocks are written like a key, and are never shown.
+ *
+ * What is not shown is described: by its file, line and column, or by what is wrong with it. Since only printable text is
+ * shown, a message cannot move the cursor or pretend to be two.
  */
 #define _DEFAULT_SOURCE
 #include "cli.h"
@@ -10,44 +20,69 @@
 #include <stdlib.h>
 #include <string.h>
 
-#define MOST_PRINTED 20
+#define MOST_PRINTED 20 /* faults, and warnings */
+#define MOST_SHOWN 40   /* bytes of a field */
+#define MOST_DIGITS 15  /* hexadecimal ones in a row */
+
+static const char not_shown[] = "(not shown, since it may be a key)";
 
 /* In this group, and in all. */
 static size_t warnings, faults, all_faults, all_faults_of_form;
 
-/* The length of the UTF-8 character here, or 0 where there is none, or one of the control characters 80 to 9f. */
-static size_t character_length(const unsigned char *at)
+/* The bytes of the character here, in UTF-8; 0 where there is none that can be printed. 80 to 9f are control characters too. */
+static size_t character_length(const uint8_t *at, size_t left)
 {
-    size_t len = at[0] < 0xc2 ? 0 : at[0] < 0xe0 ? 2 : at[0] < 0xf0 ? 3 : at[0] < 0xf5 ? 4 : 0;
+    size_t len = at[0] < 0x20 ? 0 : at[0] < 0x7f ? 1 : at[0] < 0xc2 ? 0 : at[0] < 0xe0 ? 2 : at[0] < 0xf0 ? 3 : at[0] < 0xf5 ? 4 : 0;
+    if (len > left)
+        return 0;
     for (size_t i = 1; i < len; i++)
         if (at[i] < 0x80 || at[i] > 0xbf)
             return 0;
     return at[0] == 0xc2 && at[1] < 0xa0 ? 0 : len;
 }
 
-/* One character or escaped byte; answers how many bytes were read, and adds those written to *to. */
-static size_t escape_one(const unsigned char *at, char **to)
+/* Spaces and colons between the digits do not count. */
+static bool may_be_key(struct bytes text)
 {
-    size_t len = *at >= 0x20 && *at < 0x7f ? 1 : character_length(at);
-    if (len > 0)
-        memcpy(*to, at, len);
-    *to += len > 0 ? (int)len : *at == '\n' ? sprintf(*to, "\\n") : sprintf(*to, "\\x%02x", *at);
-    return len > 0 ? len : 1;
+    size_t digits = 0;
+    for (size_t i = 0; i < text.len;) {
+        size_t len = character_length(text.at + i, text.len - i);
+        if (hex_digit(text.at[i]) >= 0)
+            digits++;
+        else if (text.at[i] != ' ' && text.at[i] != ':')
+            digits = 0;
+        if (len == 0 || digits == MOST_DIGITS + 1)
+            return true;
+        i += len;
+    }
+    return false;
+}
+
+const char *shown(const char *argument)
+{
+    struct bytes text = {(uint8_t *)argument, strlen(argument)};
+    return may_be_key(text) ? not_shown : argument;
+}
+
+const char *shown_field(struct bytes field)
+{
+    static char text[MOST_SHOWN + 8];
+    bool whole = field.len <= MOST_SHOWN;
+    if (may_be_key(field))
+        return not_shown;
+    snprintf(text, sizeof text, "\"%.*s%s\"", (int)(whole ? field.len : MOST_SHOWN), (const char *)field.at, whole ? "" : "..");
+    return text;
 }
 
 static void print_message(const char *kind, uint32_t check, const char *format, va_list arguments)
 {
-    static char plain[8192], shown[4 * sizeof plain];
-    char bracket[32] = "", *to = shown;
-    vsnprintf(plain, sizeof plain, format, arguments);
-    for (const unsigned char *at = (const unsigned char *)plain; *at != '\0';)
-        at += escape_one(at, &to);
-    *to = '\0';
+    static char text[8192];
+    char bracket[32] = "";
+    vsnprintf(text, sizeof text, format, arguments);
     if (check != PLANBOOK_ACCEPTED)
         snprintf(bracket, sizeof bracket, " [check %u]", (unsigned)check);
-    fprintf(stderr, "planbook: %s%s%s\n", kind, shown, bracket);
-    explicit_bzero(plain, sizeof plain); /* fields of a plan may have been in it */
-    explicit_bzero(shown, sizeof shown);
+    fprintf(stderr, "planbook: %s%s%s\n", kind, text, bracket);
+    explicit_bzero(text, sizeof text); /* fields of a plan may have been in it */
 }
 
 void fail(const char *format, ...)

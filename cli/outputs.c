@@ -87,48 +87,74 @@ static void write_all(int fd, const char *title, struct bytes bytes)
 static bool look_at_output(const struct output *output, struct stat *old)
 {
     if (stat(output->name, old) == 0 && is_input(old))
-        fail("%s is an input as well: an output needs a name of its own", output->name);
+        fail("%s is an input as well: an output needs a name of its own", shown(output->name));
     if (lstat(output->name, old) != 0) {
         if (errno != ENOENT)
-            fail("cannot make %s: %s", output->name, strerror(errno));
+            fail("cannot make %s: %s", shown(output->name), strerror(errno));
         return false;
     }
     if (!S_ISREG(old->st_mode))
-        fail("%s exists and is not a regular file", output->name);
+        fail("%s exists and is not a regular file", shown(output->name));
     if (output->existing == KEEP_KEY)
-        fail("%s exists, and no key is ever replaced: name another file", output->name);
+        fail("%s exists, and no key is ever replaced: name another file", shown(output->name));
     if (output->existing == KEEP)
-        fail("%s exists: name another output, or replace it with --force", output->name);
-    for (const struct pending *p = pending; p < pending + MAX_OUTPUTS; p++)
-        if (p->output != NULL && p->exists && p->old.st_dev == old->st_dev && p->old.st_ino == old->st_ino)
-            fail("%s and %s are the same output", p->output->name, output->name);
+        fail("%s exists: name another output, or replace it with --force", shown(output->name));
     return true;
 }
 
-/* The directory of a name, with its slash; empty for the current one. Not in the wiped memory: needed until the very end. */
-static char *directory_of(const char *name, const char *tail)
+/* The length of the directory of a name, with its slash; 0 for the current one. */
+static size_t directory_length(const char *name)
 {
     const char *slash = strrchr(name, '/');
-    size_t directory = slash == NULL ? 0 : (size_t)(slash - name) + 1;
-    char *path = malloc(directory + strlen(tail) + 1);
+    return slash == NULL ? 0 : (size_t)(slash - name) + 1;
+}
+
+/* Another name in the directory of this one. Not in the wiped memory: needed until the very end. */
+static char *beside(const char *name, const char *other)
+{
+    size_t directory = directory_length(name);
+    char *path = malloc(directory + strlen(other) + 1);
     if (path == NULL)
         fail("no memory for a name");
     memcpy(path, name, directory);
-    strcpy(path + directory, tail);
+    strcpy(path + directory, other);
     return path;
+}
+
+static bool same_file(const struct stat *x, const struct stat *y)
+{
+    return x->st_dev == y->st_dev && x->st_ino == y->st_ino;
+}
+
+/* Whether two files that are not there yet would be one. */
+static bool same_new_file(const char *x, const char *y)
+{
+    struct stat in_x, in_y;
+    char *directory_x = beside(x, "."), *directory_y = beside(y, ".");
+    bool same = stat(directory_x, &in_x) == 0 && stat(directory_y, &in_y) == 0 && same_file(&in_x, &in_y) &&
+                strcmp(x + directory_length(x), y + directory_length(y)) == 0;
+    free(directory_x);
+    free(directory_y);
+    return same;
+}
+
+static void expect_two_files(const struct pending *x, const struct pending *y)
+{
+    if (x->exists && y->exists ? same_file(&x->old, &y->old) : same_new_file(x->output->name, y->output->name))
+        fail("%s and %s are one file, but each output needs a file of its own", shown(x->output->name), shown(y->output->name));
 }
 
 static int make_temporary(struct pending *p)
 {
     sigset_t before;
-    p->temporary = directory_of(p->output->name, ".planbook-XXXXXX");
+    p->temporary = beside(p->output->name, ".planbook-XXXXXX");
     block_signals(&before); /* no signal between the file and the note that it is there */
     int fd = mkstemp(p->temporary);
     int why = errno;
     p->has_temporary = fd >= 0;
     sigprocmask(SIG_SETMASK, &before, NULL);
     if (fd < 0)
-        fail("cannot make %s: %s", p->output->name, strerror(why));
+        fail("cannot make %s: %s", shown(p->output->name), strerror(why));
     return fd;
 }
 
@@ -141,7 +167,7 @@ static mode_t mode_of_replaced(int fd, const struct pending *p)
         fchown(fd, p->old.st_uid, p->old.st_gid) != 0)
         mode &= ~(mode_t)S_IRWXG;
     if (p->output->secret && (mode & (S_IRGRP | S_IROTH)) != 0)
-        warn("%s keeps its mode %03o, so others may read it", p->output->name, (unsigned)mode);
+        warn("%s keeps its mode %03o, so others may read it", shown(p->output->name), (unsigned)mode);
     return mode;
 }
 
@@ -152,16 +178,16 @@ static void set_mode(int fd, const struct pending *p)
     umask(mask);
     mode_t mode = p->exists ? mode_of_replaced(fd, p) : p->output->secret ? 0600 : 0666 & ~mask;
     if (fchmod(fd, mode) != 0 && errno != EPERM && errno != ENOTSUP && errno != ENOSYS)
-        fail("cannot write %s: %s", p->output->name, strerror(errno));
+        fail("cannot write %s: %s", shown(p->output->name), strerror(errno));
 }
 
 static void write_temporary(struct pending *p)
 {
     int fd = make_temporary(p);
-    write_all(fd, p->output->name, p->output->bytes);
+    write_all(fd, shown(p->output->name), p->output->bytes);
     set_mode(fd, p);
     if (fsync(fd) != 0 || close(fd) != 0)
-        fail("cannot write %s: %s", p->output->name, strerror(errno));
+        fail("cannot write %s: %s", shown(p->output->name), strerror(errno));
 }
 
 /* An empty file takes the name, and is replaced at once. */
@@ -198,7 +224,7 @@ static void give_name(struct pending *p)
 {
     const char *name = p->output->name;
     if (p->exists ? rename(p->temporary, name) != 0 : make_name(p->temporary, name) != 0)
-        fail("cannot make %s: %s", name, strerror(errno));
+        fail("cannot make %s: %s", shown(name), strerror(errno));
     p->named = true;
     p->has_temporary = 0;
 }
@@ -206,13 +232,13 @@ static void give_name(struct pending *p)
 /* The name itself is safe from a loss of power only when its directory is. Some file systems cannot do this, and say EINVAL. */
 static void synchronise_directory(const char *name)
 {
-    char *directory = directory_of(name, ".");
+    char *directory = beside(name, ".");
     int fd = open(directory, O_RDONLY | O_DIRECTORY | O_CLOEXEC);
     free(directory);
     if (fd < 0)
         return; /* a directory may be writable and not readable */
     if (fsync(fd) != 0 && errno != EINVAL && errno != ENOTSUP)
-        fail("%s is made, but its directory cannot be synchronised: %s", name, strerror(errno));
+        fail("%s is made, but its directory cannot be synchronised: %s", shown(name), strerror(errno));
     close(fd);
 }
 
@@ -242,6 +268,9 @@ void write_outputs(const struct output *outputs, size_t count)
         if (!is_standard(outputs[i].name)) {
             pending[i].exists = look_at_output(&outputs[i], &pending[i].old);
             pending[i].output = &outputs[i];
+            for (size_t before = 0; before < i; before++)
+                if (pending[before].output != NULL)
+                    expect_two_files(&pending[before], &pending[i]);
             write_temporary(&pending[i]);
         }
     for (size_t i = 0; i < count; i++)

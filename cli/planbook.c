@@ -4,24 +4,24 @@
 #define KEYS [KEY] = true, [KEY_HEX] = true
 
 static const struct verb verbs[] = {
-    {"keygen", "FILE", "Makes a new key", run_keygen, {[BITS] = true}, false, 1, 1},
-    {"check", "[PLAN]", "Reports all that is wrong with a plan, and writes nothing", run_check, {[TRIALS] = true}, false, 0, 1},
+    {"keygen", "FILE", "Makes a new key", run_keygen, {[BITS] = true}, NO_KEY, 1, 1},
+    {"check", "[PLAN]", "Reports all that is wrong with a plan, and writes nothing", run_check, {[TRIALS] = true}, NO_KEY, 0, 1},
     {"seal", "[PLAN | CLEAR [SEALED]]", "Seals a plan (CSV) or a clear book", run_seal,
-     {KEYS, [WAY] = true, [TRIALS] = true, [FORCE] = true}, true, 0, 2},
+     {KEYS, [WAY] = true, [TRIALS] = true, [FORCE] = true}, ANY_KEY, 0, 2},
     {"open", "[SEALED [PLAN | CLEAR]]", "Opens a sealed book, to a plan (CSV) or a clear book", run_open,
-     {KEYS, [WAY] = true, [TRIALS] = true, [CSV] = true, [FORCE] = true}, true, 0, 2},
+     {KEYS, [WAY] = true, [TRIALS] = true, [CSV] = true, [FORCE] = true}, ITS_OWN_KEY, 0, 2},
     {"show", "[BOOK [TEXT]]", "Prints what can be read in a book: with its key, a sealed one too", run_show,
-     {KEYS, [JSON] = true, [FORCE] = true}, false, 0, 2},
+     {KEYS, [JSON] = true, [FORCE] = true}, NO_KEY, 0, 2},
     {"labels", "[SEALED [TEXT]]", "Prints the labels of a sealed book: trial, place, sealed record", run_labels,
-     {[JSON] = true, [FORCE] = true}, false, 0, 2},
+     {[JSON] = true, [FORCE] = true}, NO_KEY, 0, 2},
     {"find", "SEALED LABEL | SEALED TRIAL PLACE", "Tells what stands in one plot of a sealed book", run_find,
-     {KEYS, [JSON] = true}, true, 2, 3},
-    {"pack", "[PLAN [CLEAR]]", "Makes a clear book from a plan", run_pack, {[TRIALS] = true, [FORCE] = true}, false, 0, 2},
-    {"unpack", "[CLEAR [PLAN]]", "Makes the plan from a clear book", run_unpack, {[TRIALS] = true, [FORCE] = true}, false, 0, 2},
+     {KEYS, [JSON] = true}, ITS_OWN_KEY, 2, 3},
+    {"pack", "[PLAN [CLEAR]]", "Makes a clear book from a plan", run_pack, {[TRIALS] = true, [FORCE] = true}, NO_KEY, 0, 2},
+    {"unpack", "[CLEAR [PLAN]]", "Makes the plan from a clear book", run_unpack, {[TRIALS] = true, [FORCE] = true}, NO_KEY, 0, 2},
     {"page", "[CLEAR [TEXT]]", "Prints the planting page of one sheet of a clear book", run_page,
-     {[SHEET] = true, [FORCE] = true}, false, 0, 2},
+     {[SHEET] = true, [FORCE] = true}, NO_KEY, 0, 2},
     {"note", "[NOTE [OUT]]", "Seals a note, or opens a sealed one, from its counter block", run_note,
-     {KEYS, [COUNTER] = true, [WAY] = true, [FORCE] = true}, true, 0, 2},
+     {KEYS, [COUNTER] = true, [WAY] = true, [FORCE] = true}, ITS_OWN_KEY, 0, 2},
 };
 
 #define VERBS (sizeof verbs / sizeof *verbs)

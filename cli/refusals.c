@@ -31,8 +31,8 @@ static void refuse_kind(const char *name, struct bytes book, uint8_t wanted)
         refuse(PLANBOOK_CHECK_BOOK_KIND, "%s is a clear book, and a sealed one is needed here", name);
     if (is_plan(book))
         refuse(PLANBOOK_CHECK_BOOK_KIND, "%s is text, and a plan book is needed here", name);
-    refuse(PLANBOOK_CHECK_BOOK_KIND, "%s is no %s plan book: it begins with %02x %02x and not with %02x 00", name,
-           wanted == PLANBOOK_SEALED ? "sealed" : "clear", book.at[0], book.at[1], wanted);
+    refuse(PLANBOOK_CHECK_BOOK_KIND, "%s is no %s plan book: it does not begin with %02x 00", name,
+           wanted == PLANBOOK_SEALED ? "sealed" : "clear", wanted);
 }
 
 /* Sheets are counted from 0, as --sheet counts them. */

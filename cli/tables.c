@@ -1,13 +1,13 @@
 /* Accepted books as tables for people. */
 #include "cli.h"
 
-static void print_contents(struct text *to, struct bytes book, const struct sheet *sheets, size_t n)
+static void print_contents(struct text *to, struct bytes book, bool opened, const struct sheet *sheets, size_t n)
 {
     size_t records = 0;
     for (size_t i = 0; i < n; i++)
         records += sheets[i].count;
-    text_print(to, "%s plan book: sheets %zu, records %zu, bytes %zu\n", book.at[0] == PLANBOOK_SEALED ? "sealed" : "clear", n,
-               records, book.len);
+    text_print(to, "%s plan book%s: sheets %zu, records %zu, bytes %zu\n", book.at[0] == PLANBOOK_SEALED ? "sealed" : "clear",
+               opened ? ", opened from a sealed one" : "", n, records, book.len);
     if (n > 0)
         text_print(to, "\n%10s %7s %10s %-9s  %s\n", "TRIAL", "RECORDS", "REPLICATES", "", "START BLOCK");
     for (size_t i = 0; i < n; i++) {
@@ -33,12 +33,12 @@ static void print_record(struct text *to, const struct sheet *sheet, size_t plac
         text_print(to, "%5u %6u\n", (unsigned)r.row, (unsigned)r.column);
 }
 
-struct bytes show_table(struct bytes book)
+struct bytes show_table(struct bytes book, bool opened)
 {
     struct sheet sheets[PLANBOOK_MAX_SHEETS];
     size_t n = read_sheets(book, sheets);
     struct text text = {{NULL, 0}, 0};
-    print_contents(&text, book, sheets, n);
+    print_contents(&text, book, opened, sheets, n);
     if (book.at[0] == PLANBOOK_CLEAR && n > 0) {
         text_print(&text, "\n");
         print_record_head(&text);

@@ -19,8 +19,8 @@ static bool take_start_block(const struct csv *csv, struct line *line)
     struct bytes digits = csv_field(csv, START_BLOCK);
     bool good = read_hex(digits, line->start_block, PLANBOOK_BLOCK_BYTES);
     if (!good)
-        report(PLANBOOK_ACCEPTED, "%s, line %zu: the start block %s is not %d hexadecimal digits", csv->name, csv->line,
-               csv_found(digits), 2 * PLANBOOK_BLOCK_BYTES);
+        report(PLANBOOK_ACCEPTED, "%s, line %zu: the start block is not %d hexadecimal digits: %s", csv->name, csv->line,
+               2 * PLANBOOK_BLOCK_BYTES, hex_fault(digits));
     return good;
 }
 

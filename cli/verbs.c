@@ -3,6 +3,7 @@
 #include "cli.h"
 
 #include <errno.h>
+#include <inttypes.h>
 #include <stdlib.h>
 #include <string.h>
 #include <strings.h>
@@ -29,7 +30,7 @@ static uint64_t read_number(const char *what, const char *text)
     errno = 0;
     unsigned long long number = strtoull(text, NULL, 10);
     if (errno != 0 || *text == '\0' || text[strspn(text, "0123456789")] != '\0')
-        fail("%s takes a number: %s", what, text);
+        fail("%s takes a number: %s", what, shown(text));
     return number;
 }
 
@@ -50,7 +51,7 @@ static struct bytes given_counter(const struct arguments *given)
     struct bytes digits = {(uint8_t *)text, strlen(text)};
     struct bytes counter = new_bytes(digits.len / 2);
     if (!read_hex(digits, counter.at, counter.len))
-        fail("--counter takes %d hexadecimal digits and nothing else: %s", 2 * PLANBOOK_COUNTER_BYTES, text);
+        fail("--counter takes %d hexadecimal digits and nothing else: %s", 2 * PLANBOOK_COUNTER_BYTES, hex_fault(digits));
     return counter;
 }
 
@@ -152,9 +153,10 @@ static struct bytes expanded_key(const struct arguments *given, uint64_t way)
     struct bytes key_words = new_bytes(planbook_expanded_length(key.len));
     uint32_t check = call_for_words(key, way, key_words);
     if (check == PLANBOOK_CHECK_KEY_LENGTH)
-        refuse(check, "the key in %s is %s bytes long, not 16, 24 or 32", key_title(given), grouped(key.len));
+        refuse(check, "the key in %s is %s%s bytes long, not 16, 24 or 32", key_title(given),
+               key.len > KEY_FILE_LIMIT ? "more than " : "", grouped(key.len > KEY_FILE_LIMIT ? KEY_FILE_LIMIT : key.len));
     if (check == PLANBOOK_CHECK_WAY)
-        refuse(check, "--way %s: the ways are 1, 2 and 3", given->value[WAY]);
+        refuse(check, "--way %" PRIu64 ": the ways are 1, 2 and 3", way);
     if (check != PLANBOOK_ACCEPTED) /* never: but nothing may be sealed under words that were not written */
         refuse(check, "the key in %s: %s", key_title(given), planbook_check_sentence(check));
     release(&key);
@@ -200,7 +202,7 @@ void run_keygen(const struct arguments *given)
     const char *text = given->value[BITS];
     uint64_t bits = text == NULL ? 8 * PLANBOOK_KEY128_BYTES : read_number("--bits", text);
     if (bits != 8 * PLANBOOK_KEY128_BYTES && bits != 8 * PLANBOOK_KEY192_BYTES && bits != 8 * PLANBOOK_KEY256_BYTES)
-        fail("--bits %s: a key has 128, 192 or 256 bits", text);
+        fail("--bits %" PRIu64 ": a key has 128, 192 or 256 bits", bits);
     expect_no_terminal(given->words[0]);
     write_one(given->words[0], draw_key((size_t)bits / 8), true, KEEP_KEY);
 }
@@ -281,7 +283,8 @@ void run_open(const struct arguments *given)
 void run_show(const struct arguments *given)
 {
     struct bytes book = read_book(given->words[0]);
-    if (given->value[KEY] != NULL || given->value[KEY_HEX] != NULL) {
+    bool with_key = given->value[KEY] != NULL || given->value[KEY_HEX] != NULL;
+    if (with_key) {
         struct bytes sealed = book;
         book = opened(given, sealed);
         release(&sealed);
@@ -290,7 +293,7 @@ void run_show(const struct arguments *given)
     uint32_t check = sealed ? check_sealed_book(book) : check_clear_book(book);
     if (check != PLANBOOK_ACCEPTED)
         (sealed ? refuse_sealed_book : refuse_clear_book)(input_title(given->words[0]), book, check);
-    write_one(given->words[1], (given->value[JSON] != NULL ? show_json : show_table)(book), !sealed, given_force(given));
+    write_one(given->words[1], (given->value[JSON] != NULL ? show_json : show_table)(book, with_key), !sealed, given_force(given));
     release(&book);
 }
 
@@ -301,18 +304,29 @@ void run_labels(const struct arguments *given)
     release(&book);
 }
 
+/* A label as a scanner gives it, perhaps with spaces or the end of a line around it. */
+static void read_label(const char *text, uint8_t label[PLANBOOK_RECORD_BYTES])
+{
+    static const char around[] = " \t\r\n";
+    text += strspn(text, around);
+    size_t len = strlen(text);
+    while (len > 0 && strchr(around, text[len - 1]) != NULL)
+        len--;
+    struct bytes digits = {(uint8_t *)text, len};
+    if (!read_hex(digits, label, PLANBOOK_RECORD_BYTES))
+        fail("the label is not %d hexadecimal digits: %s", 2 * PLANBOOK_RECORD_BYTES, hex_fault(digits));
+}
+
 /* A label is the sealed record: found in the sealed book, at the same place in the opened one. */
 static void find_label(const struct arguments *given, const struct sheet *sheets, size_t n, size_t *sheet, size_t *place)
 {
     uint8_t label[PLANBOOK_RECORD_BYTES];
-    const char *word = given->words[1];
-    if (!read_hex((struct bytes){(uint8_t *)word, strlen(word)}, label, sizeof label))
-        fail("%s is not a label, which has %d hexadecimal digits", word, 2 * PLANBOOK_RECORD_BYTES);
+    read_label(given->words[1], label);
     for (*sheet = 0; *sheet < n; ++*sheet)
         for (*place = 0; *place < sheets[*sheet].count; ++*place)
             if (memcmp(sheets[*sheet].records + PLANBOOK_RECORD_BYTES * *place, label, sizeof label) == 0)
                 return;
-    refuse(PLANBOOK_ACCEPTED, "%s has no record with the label %s", input_title(given->words[0]), word);
+    refuse(PLANBOOK_ACCEPTED, "%s has no record with this label", input_title(given->words[0]));
 }
 
 static void find_place(const struct arguments *given, const struct sheet *sheets, size_t n, size_t *sheet, size_t *place)
@@ -321,10 +335,10 @@ static void find_place(const struct arguments *given, const struct sheet *sheets
     for (*sheet = 0; *sheet < n && sheets[*sheet].trial != trial;)
         ++*sheet;
     if (*sheet == n)
-        refuse(PLANBOOK_ACCEPTED, "%s has no trial %s", input_title(given->words[0]), given->words[1]);
+        refuse(PLANBOOK_ACCEPTED, "%s has no trial %" PRIu64, input_title(given->words[0]), trial);
     if (number >= sheets[*sheet].count)
-        refuse(PLANBOOK_ACCEPTED, "trial %s of %s has the places 0 to %u, and not %s", given->words[1], input_title(given->words[0]),
-               (unsigned)sheets[*sheet].count - 1, given->words[2]);
+        refuse(PLANBOOK_ACCEPTED, "trial %" PRIu64 " of %s has the places 0 to %u, and not %" PRIu64, trial,
+               input_title(given->words[0]), (unsigned)sheets[*sheet].count - 1, number);
     *place = (size_t)number;
 }
 

@@ -93,13 +93,21 @@ bad_counter() {
 
 test_bad_counters() {
     digits="--counter takes 32 hexadecimal digits and nothing else"
-    for bad in 0x$counter "00010203 04050607 08090a0b 0c0d0e0f" 00:01:02:03:04:05:06:07:08:09:0a:0b:0c:0d:0e:0f " $counter" "$counter " \
-        0 ${counter}0 ${counter%?} ${counter%?}g ${counter%??}g0 x${counter#?} -$counter - note; do
-        bad_counter 2 "$digits: $bad" "$bad"
+    bad_counter 2 "$digits: byte 2 is none" 0x$counter
+    bad_counter 2 "$digits: byte 9 is none" "00010203 04050607 08090a0b 0c0d0e0f"
+    bad_counter 2 "$digits: byte 3 is none" 00:01:02:03:04:05:06:07:08:09:0a:0b:0c:0d:0e:0f
+    bad_counter 2 "$digits: byte 32 is none" ${counter%?}g
+    bad_counter 2 "$digits: byte 31 is none" ${counter%??}g0
+    for bad in " $counter" x${counter#?} -$counter - note; do
+        bad_counter 2 "$digits: byte 1 is none" "$bad"
     done
-    bad_counter 2 "$digits: $counter"'\x0d' "$(printf '%s\r' $counter)"
-    bad_counter 2 "$digits: $counter"'\n' "$counter
-"
+    for bad in "$counter " "$(printf '%s\r' $counter)" "$counter
+"; do
+        bad_counter 2 "$digits: byte 33 is none" "$bad"
+    done
+    for bad in 0 ${counter}0 ${counter%?}; do
+        bad_counter 2 "$digits: there are ${#bad}" "$bad"
+    done
     # another length is the library's to refuse
     for bad in "" 00 ${counter%??} ${counter}00 $counter$counter; do
         bad_counter 1 "the counter block is $((${#bad} / 2)) bytes long, not 16, which are 32 hexadecimal digits [check 3]" "$bad"
@@ -108,7 +116,7 @@ test_bad_counters() {
     # what is wrong with the words is told before anything is read
     cp note in
     { "$planbook" note --key key128 --counter 0x00 - x 2>err; echo $? >status; cat >rest; } <in
-    judge "a bad counter block, and standard input" 2 "$digits: 0x00" "$(cat status)"
+    judge "a bad counter block, and standard input" 2 "$digits: byte 2 is none" "$(cat status)"
     same rest note
 }
 

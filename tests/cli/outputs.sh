@@ -34,11 +34,27 @@ test_existing_outputs() {
     for name in missing/x missing/ precious/x ''; do
         expect 2 "cannot make $name: " seal --key key128 clear "$name"
     done
-    expect_nothing both 2 "cannot make ./both: File exists" unpack --trials ./both clear both
-    expect_nothing both 2 "cannot make ./both: File exists" unpack --force --trials ./both clear both
+    # two outputs of one name, whether the file is there or not
+    one="are one file, but each output needs a file of its own"
+    ln -s . here
+    for name in both ./both here/both "$PWD/both"; do
+        expect_nothing both 2 "both and $name $one" unpack --trials "$name" clear both
+        expect_nothing both 2 "both and $name $one" unpack --force --trials "$name" clear both
+        expect_nothing both.csv 2 "both.csv and $name.csv $one" open --key key128 --trials "$name.csv" sealed128 both.csv
+        cp precious both
+        expect 2 "both and $name $one" unpack --force --trials "$name" clear both
+        same both precious
+        rm -f both
+    done
+    rm -f here
+    expect 0 "" unpack --trials folder/both clear both
+    same folder/both trials.csv
+    same both plan.csv
     cp precious both
-    expect 2 "both and ./both are the same output" unpack --force --trials ./both clear both
+    ln both twin
+    expect 2 "both and twin $one" unpack --force --trials twin clear both
     same both precious
+    rm -f folder/both twin
     expect_nothing x 2 "cannot make missing/y" unpack --trials missing/y clear x
     rm -f both link old kept
     # a failed --force leaves both files as they were, or the one that it did not come to

@@ -137,12 +137,15 @@ test_sheets() {
 }
 
 test_bad_sheets() {
-    for sheet in 18446744073709551616 99999999999999999999999999 -1 -0 +1 "" " " " 1" "1 " 0x1 1e0 1.0 1,2 one; do
+    for sheet in -1 -0 +1 "" " " " 1" "1 " 0x1 1e0 1.0 1,2 one; do
         expect_exactly 2 "planbook: --sheet takes a number: $sheet" page --sheet "$sheet" three x
         holds "nothing is made of --sheet $sheet" [ ! -e x ]
     done
-    expect_exactly 2 'planbook: --sheet takes a number: 1\n' page --sheet "1
-" three x
+    for sheet in 18446744073709551616 99999999999999999999999999 "1
+"; do
+        expect_exactly 2 "planbook: --sheet takes a number: $not_shown" page --sheet "$sheet" three x
+        holds "nothing is made of --sheet $sheet" [ ! -e x ]
+    done
     # what is wrong with the words is told before anything is read
     { "$planbook" page --sheet one - x 2>err; echo $? >status; cat >rest; } <three
     judge "a bad sheet, and standard input" 2 "--sheet takes a number: one" "$(cat status)"
@@ -158,7 +161,7 @@ test_page_refusals() {
         expect_exactly 1 "planbook: plan.csv is text, and a page needs a clear book: planbook pack makes one of a plan [check 6]" $page plan.csv x
         expect_exactly 1 "planbook: note is text, and a page needs a clear book: planbook pack makes one of a plan [check 6]" $page note x
         printf '\002\001\000\000' >odd
-        expect_exactly 1 "planbook: odd is no clear plan book: it begins with 02 01 and not with 01 00 [check 6]" $page odd x
+        expect_exactly 1 "planbook: odd is no clear plan book: it does not begin with 01 00 [check 6]" $page odd x
         expect_exactly 1 "planbook: empty has 0 bytes, and a plan book has at least 4 [check 5]" $page empty x
         # cut in the head, the contents and the records
         for cut in "3:has 3 bytes, and a plan book has at least 4 [check 5]" \

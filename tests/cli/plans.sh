@@ -22,6 +22,8 @@ test_spreadsheets() {
     reads_as_sample "quotes" '"trial","entry","replicate","row","column"\n"41","7","2","12","3"\n'
     reads_as_sample "quotes here and there, and semicolons" '\357\273\277"trial";entry;replicate;row;"column"\n41;"7";2;12;"3"'
     reads_as_sample "capitals" 'TRIAL,Entry,rePlicate,ROW,Column\n%s\n' $good
+    reads_as_sample "spaces around the names" 'Trial , entry,replicate ,"row ", column \n%s\n' $good
+    reads_as_sample "spaces and tabs" ' trial\tentry \treplicate\trow\t column\n41\t7\t2\t12\t3\n'
     reads_as_sample "another order of the columns" 'column,row,replicate,entry,trial\n3,12,2,7,41\n'
     reads_as_sample "an empty line at the end" '%s\n%s\n\n' $header $good
     reads_as_sample "two empty lines at the end" '%s\n%s\n\n\n' $header $good
@@ -70,7 +72,9 @@ test_bad_lines() {
     bad_line 2 "the line has 6 fields instead of 5" $good,9
     bad_line 2 'the trial "x" is not a number from 0 to 4294967295' x,7,2,12,3
     bad_line 2 'the entry "4294967296" is not a number from 0 to 4294967295' 41,4294967296,2,12,3
-    bad_line 2 'the entry "99999999999999999999999999" is not a number from 0 to 4294967295' 41,99999999999999999999999999,2,12,3
+    bad_line 2 'the entry "999999999999999" is not a number from 0 to 4294967295' 41,999999999999999,2,12,3
+    bad_line 2 "the entry $not_shown is not a number from 0 to 4294967295" 41,9999999999999999,2,12,3
+    bad_line 2 "the entry $not_shown is not a number from 0 to 4294967295" 41,99999999999999999999999999,2,12,3
     bad_line 2 'the entry "" is not a number from 0 to 4294967295' 41,,2,12,3
     bad_line 2 'the replicate "256" is not a number from 0 to 255' 41,7,256,12,3
     bad_line 2 'the row "-12" is not a number from 0 to 999' 41,7,2,-12,3
@@ -85,9 +89,10 @@ test_bad_lines() {
     bad_line 2 'the entry "7"" is not a number from 0 to 4294967295' '41,"7""",2,12,3'
     bad_line 2 'there is more after the closing quote of a field' '41,"7"8,2,12,3'
     bad_line 2 'a quoted field has no end' '41,"7,2,12,3'
-    bad_line 2 'the entry "0123456789012345678901234567890123456789.." is not a number from 0 to 4294967295' \
-        41,012345678901234567890123456789012345678901,2,12,3
-    bad_line 2 'the entry "\x1b[31m7" is not a number from 0 to 4294967295' "$(printf '41,\033[31m7,2,12,3')"
+    letters=ghijklmnopqrstuvwxyzghijklmnopqrstuvwxyz
+    bad_line 2 "the entry \"$letters\" is not a number from 0 to 4294967295" 41,$letters,2,12,3
+    bad_line 2 "the entry \"$letters..\" is not a number from 0 to 4294967295" 41,${letters}x,2,12,3
+    bad_line 2 "the entry $not_shown is not a number from 0 to 4294967295" "$(printf '41,\033[31m7,2,12,3')"
     bad_line 2 'the entry "süß" is not a number from 0 to 4294967295' 41,süß,2,12,3
     bad_line 1 "entry 0, but entries begin at 1 [check 11]" 41,0,2,12,3
     bad_line 1 "replicate 0, but replicates begin at 1 [check 11]" 41,7,0,12,3
@@ -96,7 +101,7 @@ test_bad_lines() {
     bad_plan 2 "damaged.csv, line 3: the line is empty" $good '' 41,7,2,12,4
     bad_plan 2 "damaged.csv, line 3: the line is empty" $good ,,,, '' 41,7,2,12,4
     { echo $header; printf '41,7,2,12,3\0\n'; } >damaged.csv
-    expect_nothing x 2 'damaged.csv, line 2: the column "3\x00" is not a number' pack damaged.csv x
+    expect_nothing x 2 "damaged.csv, line 2: the column $not_shown is not a number" pack damaged.csv x
     # every bad line is told, whatever is wrong with it, and the status is that of the form
     printf '%s\n' $header 41,7,5,12,9 41,7,2,12 $good x,7,2,12,4 41,0,2,12,5 >damaged.csv
     expect_exactly 2 'planbook: damaged.csv, line 2: replicate 5, but trial 41 has 4, the default; a file of trials (--trials) can say more [check 11]
@@ -117,11 +122,11 @@ planbook: damaged.csv, line 6: entry 0, but entries begin at 1 [check 11]' check
 }
 
 test_headers() {
-    bad='there is no column "entry" in the header, which begins with "trial"; the columns are trial,entry,replicate,row,column'
+    bad='there is no column "entry" in the header; the columns are trial,entry,replicate,row,column'
     expect_exactly 2 "planbook: trials.csv, line 1: $bad" pack trials.csv x
     printf '41,7,2,12,3\n' >damaged.csv
-    expect_nothing x 2 'damaged.csv, line 1: there is no column "trial" in the header, which begins with "41"' pack damaged.csv x
-    printf '%s,row\n%s,1\n' $header $good >damaged.csv
+    expect_nothing x 2 'damaged.csv, line 1: there is no column "trial" in the header; the columns are' pack damaged.csv x
+    printf '%s,row \n%s,1\n' $header $good >damaged.csv
     expect_nothing x 2 'damaged.csv, line 1: there is more than one column "row"' pack damaged.csv x
     printf '"trial,entry\n' >damaged.csv
     expect_nothing x 2 'damaged.csv, line 1: a quoted field has no end' pack damaged.csv x

@@ -322,7 +322,7 @@ static void write_tables(void)
 
 static void write_json_head(FILE *to, const char *kind)
 {
-    fprintf(to, "{\"kind\": \"%s\", \"bytes\": %zu,\n \"sheets\": [", kind, book_len);
+    fprintf(to, "{\"kind\": \"%s\", \"opened\": false, \"bytes\": %zu,\n \"sheets\": [", kind, book_len);
     for (unsigned s = 0; s < sheet_count; s++) {
         fprintf(to, "%s\n  {\"trial\": %" PRIu32 ", \"count\": %u", s > 0 ? "," : "", sheets[s].trial, sheets[s].count);
         fprintf(to, ", \"replicates\": %u, \"replicates_by_default\": %s, \"start_block\": \"", replicates_of(s),

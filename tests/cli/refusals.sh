@@ -1,5 +1,8 @@
 # Part of tests/cli/run: bad options, keys, books and CSV files. Each is refused with a clear sentence, and leaves nothing.
 
+# What a message has in place of an argument or a field that may be a key.
+not_shown="(not shown, since it may be a key)"
+
 test_usage() {
     expect 2 "usage:"
     expect 2 "close is not a verb; planbook help lists them" close
@@ -11,8 +14,11 @@ test_usage() {
     expect_nothing x 2 "--key needs a value: FILE" seal clear x --key
     expect_nothing x 2 "--force is given twice" seal --force --key key128 --force clear x
     expect_nothing x 2 "--force takes no value" seal --force=yes --key key128 clear x
-    for line in "seal clear" "note --counter $counter note"; do
-        expect_exactly 2 "planbook: ${line%% *} needs a key, by either --key or --key-hex; planbook keygen makes one" $line x
+    # a key can be made where one seals; to open, the one that was used is needed
+    needs="needs a key, by either --key or --key-hex"
+    expect_exactly 2 "planbook: seal $needs; planbook keygen makes one" seal clear x
+    for line in "open sealed128" "note --counter $counter note" "find sealed128"; do
+        expect_exactly 2 "planbook: ${line%% *} $needs" $line x
     done
     expect_exactly 2 "planbook: --key and --key-hex are both given, but a key is read from one file" seal --key key128 --key-hex hex128 clear x
     expect_exactly 2 "planbook: --key and --key-hex are both given, but a key is read from one file" show --key key128 --key-hex hex128 sealed128 x
@@ -40,9 +46,10 @@ test_usage() {
     expect_nothing x 2 "only one of the inputs" pack --trials - - x
     expect_nothing x 2 "only one of the inputs" note --key - --counter $counter - x
     expect_nothing x 2 "cannot both go to standard output" unpack --trials - clear
-    for way in two -1 +2 2x '' ' 2' 18446744073709551616; do
+    for way in two -1 +2 2x '' ' 2'; do
         expect_nothing x 2 "--way takes a number: $way" seal --key key128 --way "$way" clear x
     done
+    expect_nothing x 2 "--way takes a number: $not_shown" seal --key key128 --way 18446744073709551616 clear x
     # after --, a word is no option
     cp clear ./--force
     expect 0 "" seal --key key128 -- --force x
@@ -89,16 +96,22 @@ test_help() {
     same out wanted
 }
 
-# Names with control characters are shown escaped, others as they are.
+# Names that can be printed are shown, but not such as may be a key.
 test_names() {
-    name=$(printf 'a\033[2Jb\nc\r\177\302\233')
-    expect_exactly 2 'planbook: cannot open a\x1b[2Jb\nc\x0d\x7f\xc2\x9b: No such file or directory' show "$name"
-    expect_exactly 2 'planbook: a\x1b[2Jb\nc\x0d\x7f\xc2\x9b is not a verb; planbook help lists them' "$name"
-    cp clear "$name"
-    expect_exactly 1 'planbook: a\x1b[2Jb\nc\x0d\x7f\xc2\x9b is a clear book, and a sealed one is needed here [check 6]' labels "$name"
-    rm -f "$name"
-    expect_exactly 2 'planbook: cannot open Zuckerrübe €: No such file or directory' show 'Zuckerrübe €'
-    expect_exactly 2 'planbook: cannot open \xff\xc3: No such file or directory' show "$(printf '\377\303')"
+    missing="No such file or directory"
+    for name in 'Zuckerrübe €' 'a "b" c' '𝄞' season-26 20261117123456.csv 123e4567-e89b-12d3-a456-426614174000 0123456789abcdeg; do
+        expect_exactly 2 "planbook: cannot open $name: $missing" show "$name"
+    done
+    for name in "$(printf 'a\033[2Jb')" "$(printf 'a\nb')" "$(printf 'a\177')" "$(printf '\302\233')" "$(printf '\303')" \
+        "$(printf '\377\303')" "$(printf '\303x')" 0123456789abcdef 0123456789ABCDEF.csv x-01:23:45:67:89:ab:cd:ef \
+        '01234567 89abcdef'; do
+        expect_exactly 2 "planbook: cannot open $not_shown: $missing" show "$name"
+        expect_exactly 2 "planbook: $not_shown is not a verb; planbook help lists them" "$name"
+        cp clear "$name"
+        expect_exactly 1 "planbook: $not_shown is a clear book, and a sealed one is needed here [check 6]" labels "$name"
+        expect_exactly 2 "planbook: $not_shown exists: name another output, or replace it with --force" show clear "$name"
+        rm -f "$name"
+    done
 }
 
 # What is said of a sealed book under check 11.
@@ -111,6 +124,13 @@ test_keys() {
         for line in "seal --key short clear" "note --key short --counter $counter note"; do
             expect_nothing x 1 "the key in short is $(echo $length | sed 's/^4/4,/') bytes long, not 16, 24 or 32 [check 1]" $line x
         done
+    done
+    # a longer file is not read to its end, so its length is not known
+    head -c 4096 /dev/zero >short
+    expect_nothing x 1 "the key in short is 4,096 bytes long, not 16, 24 or 32 [check 1]" seal --key short clear x
+    for length in 4097 5000 100000; do
+        head -c $length /dev/zero >short
+        expect_nothing x 1 "the key in short is more than 4,096 bytes long, not 16, 24 or 32 [check 1]" seal --key short clear x
     done
     echo 00112233445566778899aabbccddee >short
     expect_nothing x 1 "the key in short is 15 bytes long, not 16, 24 or 32 [check 1]" open --key-hex short sealed128 x
@@ -137,7 +157,8 @@ test_keys() {
     echo 0112233445566778899aabbccddeeff >digits
     expect_nothing x 2 "odd number of hexadecimal digits, 31" open --key-hex digits sealed128 x
     expect_nothing x 2 "not a hexadecimal digit" open --key-hex key128 sealed128 x
-    expect_nothing x 2 "too long for a key" open --key-hex /dev/zero sealed128 x
+    expect_nothing x 2 "the key in /dev/zero is more than 4,096 bytes long, and a key has 32, 48 or 64 digits" \
+        open --key-hex /dev/zero sealed128 x
     expect_nothing x 2 "cannot open missing: No such file" open --key missing sealed128 x
     expect_nothing x 2 "cannot read folder: Is a directory" open --key folder sealed128 x
     for way in 0 4 257 4294967297 18446744073709551615; do
@@ -209,8 +230,8 @@ bad_sealed() {
 test_books() {
     bad_clear 5 " has 0 bytes, and a plan book has at least 4"
     bad_clear 5 " has 3 bytes, and a plan book has at least 4" 010000
-    bad_clear 6 " is no clear plan book: it begins with 03 00 and not with 01 00" 03000000
-    bad_clear 6 " is no clear plan book: it begins with 01 01 and not with 01 00" 01010000
+    bad_clear 6 " is no clear plan book: it does not begin with 01 00" 03000000
+    bad_clear 6 " is no clear plan book: it does not begin with 01 00" 01010000
     bad_clear 7 " says that it has 65 trials, and a plan book has at most 64" 01000041
     bad_clear 8 " has 12 bytes, but the contents of its 1 trials need 28: its end is missing" 01000001 0000002900010000
     bad_clear 9 ": trial 41 has 0 plots, and a trial has 1 to 1,024" 01000001 0000002900000000$start
@@ -240,7 +261,7 @@ test_books() {
     bad_sealed 5 " has 0 bytes, and a plan book has at least 4"
     bad_sealed 5 " has 3 bytes, and a plan book has at least 4" 020000
     bad_sealed 6 " is a clear book, and a sealed one is needed here" 01000001 $entry $record
-    bad_sealed 6 " is no sealed plan book: it begins with 02 01 and not with 02 00" 02010000
+    bad_sealed 6 " is no sealed plan book: it does not begin with 02 00" 02010000
     bad_sealed 7 " says that it has 65 trials, and a plan book has at most 64" 02000041
     bad_sealed 8 " has 8 bytes, but the contents of its 1 trials need 28: its end is missing" 02000001 00000029
     bad_sealed 9 ": trial 41 has 1,025 plots, and a trial has 1 to 1,024" 02000001 0000002904010000$start
@@ -253,8 +274,8 @@ test_books() {
     expect_exactly 1 "planbook: clear is a clear book, and a sealed one is needed here [check 6]" show --key key128 clear x
     expect_exactly 1 "planbook: plan.csv is text, and a plan book is needed here [check 6]" show plan.csv x
     expect_exactly 1 "planbook: plan.csv is text, and a plan book is needed here [check 6]" open --key key128 plan.csv x
-    bad_clear 6 " is no clear plan book: it begins with 41 42 and not with 01 00" 41424344 0a000000
-    bad_sealed 6 " is no sealed plan book: it begins with ff d8 and not with 02 00" ffd8ffe0 00104a46
+    bad_clear 6 " is no clear plan book: it does not begin with 01 00" 41424344 0a000000
+    bad_sealed 6 " is no sealed plan book: it does not begin with 02 00" ffd8ffe0 00104a46
     for verb in "seal --key key128" "open --key key128" show labels unpack page; do
         expect_nothing x 1 "/dev/zero is longer than a plan book can be, which is 65,532 bytes [check 5]" $verb /dev/zero x
     done

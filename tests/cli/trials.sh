@@ -30,14 +30,17 @@ planbook: damaged-plan.csv, line 3: trial 42 has no line in trials.csv" pack --t
     bad_trials 2 "damaged.csv, line 2: the line has 1 fields instead of 2" $both 41
     bad_trials 2 'damaged.csv, line 2: the trial "x" is not a number from 0 to 4294967295' $both x,$start
     # the columns that may be absent, and names that are nearly theirs
-    bad_trials 2 'damaged.csv, line 1: there is no column "trial" in the header, which begins with "replicates"; the columns are trial,start_block,replicates' replicates 8
+    bad_trials 2 'damaged.csv, line 1: there is no column "trial" in the header; the columns are trial,start_block,replicates' replicates 8
     bad_trials 2 'damaged.csv, line 1: there is more than one column "replicates"' trial,replicates,Replicates 41,8,8
-    for near in replicate REPLICATE 'replicates per trial' Replicates? ' replicates'; do
+    for near in replicate REPLICATE 'replicates per trial' Replicates? 'replicates_'; do
         bad_trials 2 "damaged.csv, line 1: the column \"$near\" is not known; if it is meant as \"replicates\", name it so" "trial,$near" 41,8
     done
     for near in 'Start block' start-block startblock start_blocks; do
         bad_trials 2 "damaged.csv, line 1: the column \"$near\" is not known; if it is meant as \"start_block\", name it so" "trial,$near" 41,$start
     done
+    # spaces around a name do not count
+    printf ' Trial ,replicates \n41,8\n' >odd.csv
+    expect 0 "" check --trials odd.csv plan.csv
     printf 'trial,remark,replicates\n41,seedlings,0\n' >odd.csv
     expect_exactly 0 'planbook: warning: odd.csv, line 1: the column "remark" is not used' check --trials odd.csv plan.csv
     printf 'trial,rep\n41,8\n' >odd.csv
@@ -69,11 +72,12 @@ planbook: damaged-plan.csv, line 3: trial 42 has no line in trials.csv" pack --t
 }
 
 test_start_blocks() {
-    bad_trials 2 "damaged.csv, line 2: the start block \"${start}0\" is not 32 hexadecimal digits" $both 41,${start}0
-    bad_trials 2 "damaged.csv, line 2: the start block \"x${start#0}\" is not 32 hexadecimal digits" $both 41,x${start#0}
-    bad_trials 2 'damaged.csv, line 2: the start block "4g' $both 41,4g${start#00}
-    bad_trials 2 'damaged.csv, line 2: the start block "g4' $both 41,g4${start#00}
-    bad_trials 2 'damaged.csv, line 2: the start block "" is not 32 hexadecimal digits' $both 41,
+    bad="damaged.csv, line 2: the start block is not 32 hexadecimal digits"
+    bad_trials 2 "$bad: there are 33" $both 41,${start}0
+    bad_trials 2 "$bad: byte 1 is none" $both 41,x${start#0}
+    bad_trials 2 "$bad: byte 2 is none" $both 41,4g${start#00}
+    bad_trials 2 "$bad: byte 1 is none" $both 41,g4${start#00}
+    bad_trials 2 "$bad: there are 0" $both 41,
     zeros=00000000000000000000000000000000
     printf '%s\n' $both 41,$zeros >damaged.csv
     expect_exactly 2 "planbook: damaged.csv: the start block of trial 41 is all zeros; without the column start_block, good ones are drawn" \
@@ -155,7 +159,7 @@ planbook: damaged-plan.csv, line 5: replicate 4, but trial 42 has 3 [check 11]" 
     # all of them are told, and no record is blamed for them
     printf 'trial,start_block,replicates\n41,4g,9\n42,%s,x\n' $start >damaged.csv
     plan_of 41,7,5,12,1 42,7,9,1,1
-    expect_exactly 2 "planbook: damaged.csv, line 2: the start block \"4g\" is not 32 hexadecimal digits
+    expect_exactly 2 "planbook: damaged.csv, line 2: the start block is not 32 hexadecimal digits: byte 2 is none
 planbook: damaged.csv, line 2: 9 replicates, but a trial has 1 to 8, or 0 for the default of 4 [check 9]
 planbook: damaged.csv, line 3: the number of replicates \"x\" is not a number from 0 to 8
 planbook: damaged-plan.csv, line 3: replicate 9, but trial 42 has 8 [check 11]" check --trials damaged.csv damaged-plan.csv

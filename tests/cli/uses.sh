@@ -86,11 +86,13 @@ END
     mode_is 600 shown
     expect 0 "" show sealed192
     same out head
+    # with the key, what is shown is called opened
+    sed '1s/^clear plan book:/clear plan book, opened from a sealed one:/' table >opened
     for bits in 128 192 256; do
         expect 0 "" show --key key$bits sealed$bits
-        same out table
+        same out opened
         expect 0 "" show --force --key-hex hex$bits sealed$bits shown
-        same shown table
+        same shown opened
     done
     echo "41 0 $cipher256" >label
     cp sealed256 in
@@ -112,7 +114,7 @@ END
 
 test_json() {
     cat >wanted <<END
-{"kind": "clear", "bytes": 44,
+{"kind": "clear", "opened": false, "bytes": 44,
  "sheets": [
   {"trial": 41, "count": 1, "replicates": 4, "replicates_by_default": true, "start_block": "$start"}
  ],
@@ -123,10 +125,14 @@ test_json() {
 END
     expect 0 "" show --json clear
     same out wanted
+    sed '1s/"opened": false/"opened": true/' wanted >opened
     for bits in 128 192 256; do
         expect 0 "" show --json --key key$bits sealed$bits
-        same out wanted
+        same out opened
     done
+    { sed -n -e '1s/clear/sealed/' -e '1,3p' wanted; printf ' ]\n}\n'; } >head
+    expect 0 "" show --json sealed128
+    same out head
     printf '[\n {"trial": 41, "place": 0, "label": "%s"}\n]\n' $cipher128 >wanted
     expect 0 "" labels --json sealed128 x
     same x wanted
@@ -169,11 +175,21 @@ test_find() {
     cp s in
     expect 0 "" find --json --key key128 - "$("$planbook" labels s | sed -n '3s/.* //p')"
     same out wanted
-    expect_exactly 1 "planbook: s has no record with the label $cipher192" find --key key128 s $cipher192
+    # a label as a scanner gives it, or as it is pasted
+    { cat head; echo '        41     0          7         2    12      3'; } >wanted
+    for label in " $cipher128" "$cipher128  " "$(printf '\t%s\r' $cipher128)" "$(printf '%s\r\n.' $cipher128 | sed '$d')
+"; do
+        expect 0 "" find --key key128 s "$label"
+        same out wanted
+    done
+    expect_exactly 1 "planbook: s has no record with this label" find --key key128 s $cipher192
     expect_exactly 1 "planbook: s has no trial 42" find --key key128 s 42 0
     expect_exactly 1 "planbook: trial 41 of s has the places 0 to 1, and not 2" find --key key128 s 41 2
-    expect_exactly 2 "planbook: 41 is not a label, which has 32 hexadecimal digits" find --key key128 s 41
-    expect 2 "is not a label" find --key key128 s ${cipher128}0
+    bad="planbook: the label is not 32 hexadecimal digits"
+    expect_exactly 2 "$bad: there are 2" find --key key128 s 41
+    expect_exactly 2 "$bad: there are 33" find --key key128 s ${cipher128}0
+    expect_exactly 2 "$bad: there are 0" find --key key128 s " "
+    expect_exactly 2 "$bad: byte 17 is none" find --key key128 s "de2bf2fd9b74aacd f1298555459494fd"
     expect 2 "PLACE takes a number: x" find --key key128 s 41 x
     expect 2 "find needs more words: SEALED LABEL | SEALED TRIAL PLACE" find --key key128 s
     expect 2 "9 is one word too many" find --key key128 s 41 0 9
@@ -284,7 +300,7 @@ random_book() {
         "$planbook" show --json book >out && cmp out show.json &&
         "$planbook" show sealed >out && cmp out head.txt &&
         "$planbook" show --json sealed >out && cmp out head.json &&
-        "$planbook" show --key key sealed >out && cmp out show.txt &&
+        "$planbook" show --key key sealed >out && sed '1s/, opened from a sealed one:/:/' out | cmp - show.txt &&
         "$planbook" labels sealed >out && cmp out labels.txt &&
         "$planbook" labels --json sealed >out && cmp out labels.json &&
         "$planbook" open --csv --key key sealed >out && cmp out plan.csv &&
