@@ -37,7 +37,7 @@ static void print_synopsis(struct text *to, const struct verb *verb)
         if (verb->takes[i])
             text_print(to, " [%s%s%s]", options[i].name, options[i].value != NULL ? " " : "",
                        options[i].value != NULL ? options[i].value : "");
-    text_print(to, " %s\n", verb->words);
+    text_print(to, " %s\n", verb->operands);
 }
 
 static void print_options(struct text *to, const bool *takes)
@@ -111,9 +111,9 @@ static const struct verb *find_verb(const struct verb *verbs, size_t count, cons
     fail("%s is not a verb; planbook help lists them", shown(name));
 }
 
-static bool asks_for_help(const char *word)
+static bool asks_for_help(const char *argument)
 {
-    return strcmp(word, "--help") == 0 || strcmp(word, "-h") == 0;
+    return strcmp(argument, "--help") == 0 || strcmp(argument, "-h") == 0;
 }
 
 /* An option by its name. The file of trials had start blocks alone once, and the option's name of that time is still taken. */
@@ -128,19 +128,19 @@ static size_t find_option(const char *name, size_t len)
     return i;
 }
 
-/* Options are written out whole, with the value after = or as the next word. Answers how many words were taken. */
-static int take_option(const struct verb *verb, struct arguments *given, char **words)
+/* Options are written out whole, with the value after = or as the next argument. Answers how many arguments were taken. */
+static int take_option(const struct verb *verb, struct arguments *given, char **argv)
 {
-    const char *equals = strchr(words[0], '=');
-    size_t len = equals != NULL ? (size_t)(equals - words[0]) : strlen(words[0]);
-    size_t i = find_option(words[0], len);
+    const char *equals = strchr(argv[0], '=');
+    size_t len = equals != NULL ? (size_t)(equals - argv[0]) : strlen(argv[0]);
+    size_t i = find_option(argv[0], len);
     if (i == OPTIONS || !verb->takes[i])
-        fail("%s has no option %s; planbook %s --help lists them", verb->name, shown(words[0]), verb->name);
+        fail("%s has no option %s; planbook %s --help lists them", verb->name, shown(argv[0]), verb->name);
     if (given->value[i] != NULL)
         fail("%s is given twice", options[i].name);
     if (options[i].value == NULL && equals != NULL)
         fail("%s takes no value", options[i].name);
-    given->value[i] = options[i].value == NULL ? "" : equals != NULL ? equals + 1 : words[1];
+    given->value[i] = options[i].value == NULL ? "" : equals != NULL ? equals + 1 : argv[1];
     if (given->value[i] == NULL)
         fail("%s needs a value: %s", options[i].name, options[i].value);
     return options[i].value == NULL || equals != NULL ? 1 : 2;
@@ -163,62 +163,62 @@ static void expect_counter(const struct verb *verb, const struct arguments *give
              verb->name);
 }
 
-/* The words after the verb. Answers false where they ask for help. */
-static bool read_words(const struct verb *verb, char **words, struct arguments *given)
+/* The arguments after the verb. Answers false where they ask for help. */
+static bool read_rest(const struct verb *verb, char **argv, struct arguments *given)
 {
     size_t count = 0;
     bool options_end = false;
-    while (*words != NULL) {
-        bool is_option = !options_end && words[0][0] == '-' && words[0][1] != '\0';
-        if (is_option && asks_for_help(*words))
+    while (*argv != NULL) {
+        bool is_option = !options_end && argv[0][0] == '-' && argv[0][1] != '\0';
+        if (is_option && asks_for_help(*argv))
             return false;
-        if (is_option && strcmp(*words, "--") == 0) {
+        if (is_option && strcmp(*argv, "--") == 0) {
             options_end = true;
-            words++;
+            argv++;
         } else if (is_option) {
-            words += take_option(verb, given, words);
+            argv += take_option(verb, given, argv);
         } else {
-            if (count == verb->most_words)
-                fail("%s is one word too many: %s takes %s", shown(*words), verb->name, verb->words);
-            given->words[count++] = *words++;
+            if (count == verb->most_operands)
+                fail("%s is one operand too many: %s takes %s", shown(*argv), verb->name, verb->operands);
+            given->operands[count++] = *argv++;
         }
     }
     expect_key(verb, given);
     expect_counter(verb, given);
-    if (count < verb->least_words)
-        fail("%s needs more words: %s", verb->name, verb->words);
+    if (count < verb->least_operands)
+        fail("%s needs more operands: %s", verb->name, verb->operands);
     return true;
 }
 
-static void expect_end(char **words)
+static void expect_end(char **argv)
 {
-    if (words[1] != NULL)
-        fail("%s is one word too many after %s", shown(words[1]), words[0]);
+    if (argv[1] != NULL)
+        fail("%s is one operand too many after %s", shown(argv[1]), shown(argv[0]));
 }
 
-/* Words that are no verb of the table; answers whether the first was one of them. */
-static bool answer_about_command(const struct verb *verbs, size_t count, char **words)
+/* What is no verb of the table. Answers whether the first argument was that. */
+static bool answer_about_command(const struct verb *verbs, size_t count, char **argv)
 {
-    bool is_help = strcmp(words[0], "help") == 0, is_version = strcmp(words[0], "--version") == 0;
-    if (!is_help && !is_version && !asks_for_help(words[0]))
+    bool is_help = strcmp(argv[0], "help") == 0, is_version = strcmp(argv[0], "--version") == 0;
+    if (!is_help && !is_version && !asks_for_help(argv[0]))
         return false;
-    bool about_verb = is_help && words[1] != NULL;
-    expect_end(words + about_verb);
+    bool about_verb = is_help && argv[1] != NULL;
+    expect_end(argv + about_verb);
     if (is_version)
         print_version();
     else if (about_verb)
-        help_with(find_verb(verbs, count, words[1]));
+        help_with(find_verb(verbs, count, argv[1]));
     else
         help(verbs, count);
     return true;
 }
 
-const struct verb *read_arguments(const struct verb *verbs, size_t count, char **words, struct arguments *given)
+const struct verb *read_arguments(const struct verb *verbs, size_t count, char **argv, struct arguments *given)
 {
-    if (answer_about_command(verbs, count, words))
+    if (answer_about_command(verbs, count, argv))
         return NULL;
-    const struct verb *verb = find_verb(verbs, count, words[0]);
-    if (read_words(verb, words + 1, given))
+    const struct verb *verb = find_verb(verbs, count, argv[0]);
+    if (read_rest(verb, argv + 1, given))
         return verb;
     help_with(verb);
     return NULL;

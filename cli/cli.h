@@ -2,7 +2,7 @@
  * The parts of the command planbook, one file each:
  *
  *   planbook.c    the table of verbs
- *   arguments.c   the command line: options, words, help
+ *   arguments.c   the command line: options, operands, help
  *   verbs.c       what each verb does
  *   messages.c    messages and exit statuses
  *   memory.c      memory that is wiped before it is given back
@@ -41,12 +41,12 @@ struct bytes {
 
 enum option { KEY, KEY_HEX, COUNTER, WAY, TRIALS, SHEET, BITS, CSV, JSON, FORCE, OPTIONS };
 
-#define MAX_WORDS 3
+#define MAX_OPERANDS 3
 
-/* The value of each option given, and the words that are no options. A word that is not given is null. */
+/* The value of each option given, and the operands. What is not given is null. */
 struct arguments {
     const char *value[OPTIONS];
-    const char *words[MAX_WORDS];
+    const char *operands[MAX_OPERANDS];
 };
 
 /* For a new book a key can be made. An old book or note needs its own. */
@@ -54,16 +54,16 @@ enum key_need { NO_KEY, ITS_OWN_KEY, ANY_KEY };
 
 struct verb {
     const char *name;
-    const char *words; /* as the usage shows them */
+    const char *operands; /* as the usage shows them */
     const char *summary;
     void (*run)(const struct arguments *given);
     bool takes[OPTIONS]; /* a counter block is needed where it is taken */
     enum key_need needs_key;
-    size_t least_words, most_words;
+    size_t least_operands, most_operands;
 };
 
 /* The verb and its arguments. Where help is asked for instead, prints it and answers null. */
-const struct verb *read_arguments(const struct verb *verbs, size_t count, char **words, struct arguments *given);
+const struct verb *read_arguments(const struct verb *verbs, size_t count, char **argv, struct arguments *given);
 
 /* The usage of all verbs, for a command line without a verb. */
 void fail_without_verb(const struct verb *verbs, size_t count) __attribute__((noreturn));

@@ -57,7 +57,7 @@ static struct bytes given_counter(const struct arguments *given)
 
 static bool gives_plan(const struct arguments *given)
 {
-    const char *name = given->words[1];
+    const char *name = given->operands[1];
     size_t len = name == NULL ? 0 : strlen(name);
     return given->value[CSV] != NULL || (len >= 4 && strcasecmp(name + len - 4, ".csv") == 0);
 }
@@ -122,7 +122,7 @@ static struct bytes packed_plan(const struct arguments *given, struct bytes plan
     if (name != NULL)
         trials = read_csv(name);
     struct bytes book =
-        pack_plan(plan, input_title(given->words[0]), name != NULL ? &trials : NULL, input_title(name), start_blocks);
+        pack_plan(plan, input_title(given->operands[0]), name != NULL ? &trials : NULL, input_title(name), start_blocks);
     release(&trials);
     return book;
 }
@@ -131,10 +131,10 @@ static struct bytes packed_plan(const struct arguments *given, struct bytes plan
 static void write_plan(const struct arguments *given, struct bytes book)
 {
     const char *name = given->value[TRIALS];
-    struct output outputs[] = {{given->words[1], unpack_plan(book), true, given_force(given)},
+    struct output outputs[] = {{given->operands[1], unpack_plan(book), true, given_force(given)},
                                {name, unpack_trials(book), true, given_force(given)}};
     if (name == NULL)
-        warn_of_replicates(input_title(given->words[0]), book);
+        warn_of_replicates(input_title(given->operands[0]), book);
     write_outputs(outputs, name != NULL ? 2 : 1);
     release(&outputs[0].bytes);
     release(&outputs[1].bytes);
@@ -142,7 +142,7 @@ static void write_plan(const struct arguments *given, struct bytes book)
 
 static void expect_two_places(const struct arguments *given)
 {
-    if (given->value[TRIALS] != NULL && is_standard(given->words[1]) && is_standard(given->value[TRIALS]))
+    if (given->value[TRIALS] != NULL && is_standard(given->operands[1]) && is_standard(given->value[TRIALS]))
         fail("plan and trials cannot both go to standard output");
 }
 
@@ -173,7 +173,7 @@ static struct bytes recode(const struct arguments *given, book_call *call, struc
     uint32_t check = call_library(call, key_words, way, book, out);
     release(&key_words);
     if (check != PLANBOOK_ACCEPTED)
-        refuse_book(input_title(given->words[0]), book, check);
+        refuse_book(input_title(given->operands[0]), book, check);
     return out;
 }
 
@@ -186,7 +186,7 @@ static struct bytes crypt_note(const struct arguments *given, struct bytes count
     uint32_t check = call_for_note(key_words, way, counter, note, out);
     release(&key_words);
     if (check != PLANBOOK_ACCEPTED)
-        refuse_note(input_title(given->words[0]), counter, check);
+        refuse_note(input_title(given->operands[0]), counter, check);
     return out;
 }
 
@@ -203,8 +203,8 @@ void run_keygen(const struct arguments *given)
     uint64_t bits = text == NULL ? 8 * PLANBOOK_KEY128_BYTES : read_number("--bits", text);
     if (bits != 8 * PLANBOOK_KEY128_BYTES && bits != 8 * PLANBOOK_KEY192_BYTES && bits != 8 * PLANBOOK_KEY256_BYTES)
         fail("--bits %" PRIu64 ": a key has 128, 192 or 256 bits", bits);
-    expect_no_terminal(given->words[0]);
-    write_one(given->words[0], draw_key((size_t)bits / 8), true, KEEP_KEY);
+    expect_no_terminal(given->operands[0]);
+    write_one(given->operands[0], draw_key((size_t)bits / 8), true, KEEP_KEY);
 }
 
 static size_t count_reserve(const struct sheet *sheet)
@@ -221,7 +221,7 @@ static size_t count_reserve(const struct sheet *sheet)
 void run_check(const struct arguments *given)
 {
     struct sheet sheets[PLANBOOK_MAX_SHEETS];
-    struct bytes plan = read_csv(given->words[0]);
+    struct bytes plan = read_csv(given->operands[0]);
     struct bytes book = packed_plan(given, plan, AS_GIVEN);
     size_t records = 0, reserve = 0, trials = read_sheets(book, sheets);
     for (size_t i = 0; i < trials; i++) {
@@ -240,8 +240,8 @@ void run_check(const struct arguments *given)
 
 void run_seal(const struct arguments *given)
 {
-    const char *name = given->words[0];
-    expect_no_terminal(given->words[1]);
+    const char *name = given->operands[0];
+    expect_no_terminal(given->operands[1]);
     struct bytes book = read_input(name, CSV_LIMIT);
     bool from_plan = is_plan(book);
     if (from_plan) {
@@ -257,7 +257,7 @@ void run_seal(const struct arguments *given)
     if (!from_plan)
         warn_of_start_blocks(input_title(name), book);
     release(&book);
-    write_one(given->words[1], sealed, false, given_force(given));
+    write_one(given->operands[1], sealed, false, given_force(given));
 }
 
 void run_open(const struct arguments *given)
@@ -266,13 +266,13 @@ void run_open(const struct arguments *given)
     if (!to_plan && given->value[TRIALS] != NULL)
         fail("--trials goes with a plan: name an output that ends in .csv, or give --csv");
     if (!to_plan)
-        expect_no_terminal(given->words[1]);
+        expect_no_terminal(given->operands[1]);
     expect_two_places(given);
-    struct bytes sealed = read_book(given->words[0]);
+    struct bytes sealed = read_book(given->operands[0]);
     struct bytes book = opened(given, sealed);
     release(&sealed);
     if (!to_plan) {
-        write_one(given->words[1], book, true, given_force(given));
+        write_one(given->operands[1], book, true, given_force(given));
         return;
     }
     write_plan(given, book);
@@ -282,7 +282,7 @@ void run_open(const struct arguments *given)
 /* A book that says it is sealed is judged as one, any other as a clear one. With a key it must be a sealed one. */
 void run_show(const struct arguments *given)
 {
-    struct bytes book = read_book(given->words[0]);
+    struct bytes book = read_book(given->operands[0]);
     bool with_key = given->value[KEY] != NULL || given->value[KEY_HEX] != NULL;
     if (with_key) {
         struct bytes sealed = book;
@@ -292,15 +292,15 @@ void run_show(const struct arguments *given)
     bool sealed = book.len > 0 && book.at[0] == PLANBOOK_SEALED;
     uint32_t check = sealed ? check_sealed_book(book) : check_clear_book(book);
     if (check != PLANBOOK_ACCEPTED)
-        (sealed ? refuse_sealed_book : refuse_clear_book)(input_title(given->words[0]), book, check);
-    write_one(given->words[1], (given->value[JSON] != NULL ? show_json : show_table)(book, with_key), !sealed, given_force(given));
+        (sealed ? refuse_sealed_book : refuse_clear_book)(input_title(given->operands[0]), book, check);
+    write_one(given->operands[1], (given->value[JSON] != NULL ? show_json : show_table)(book, with_key), !sealed, given_force(given));
     release(&book);
 }
 
 void run_labels(const struct arguments *given)
 {
-    struct bytes book = sealed_book(given->words[0]);
-    write_one(given->words[1], (given->value[JSON] != NULL ? labels_json : labels_table)(book), false, given_force(given));
+    struct bytes book = sealed_book(given->operands[0]);
+    write_one(given->operands[1], (given->value[JSON] != NULL ? labels_json : labels_table)(book), false, given_force(given));
     release(&book);
 }
 
@@ -321,24 +321,24 @@ static void read_label(const char *text, uint8_t label[PLANBOOK_RECORD_BYTES])
 static void find_label(const struct arguments *given, const struct sheet *sheets, size_t n, size_t *sheet, size_t *place)
 {
     uint8_t label[PLANBOOK_RECORD_BYTES];
-    read_label(given->words[1], label);
+    read_label(given->operands[1], label);
     for (*sheet = 0; *sheet < n; ++*sheet)
         for (*place = 0; *place < sheets[*sheet].count; ++*place)
             if (memcmp(sheets[*sheet].records + PLANBOOK_RECORD_BYTES * *place, label, sizeof label) == 0)
                 return;
-    refuse(PLANBOOK_ACCEPTED, "%s has no record with this label", input_title(given->words[0]));
+    refuse(PLANBOOK_ACCEPTED, "%s has no record with this label", input_title(given->operands[0]));
 }
 
 static void find_place(const struct arguments *given, const struct sheet *sheets, size_t n, size_t *sheet, size_t *place)
 {
-    uint64_t trial = read_number("TRIAL", given->words[1]), number = read_number("PLACE", given->words[2]);
+    uint64_t trial = read_number("TRIAL", given->operands[1]), number = read_number("PLACE", given->operands[2]);
     for (*sheet = 0; *sheet < n && sheets[*sheet].trial != trial;)
         ++*sheet;
     if (*sheet == n)
-        refuse(PLANBOOK_ACCEPTED, "%s has no trial %" PRIu64, input_title(given->words[0]), trial);
+        refuse(PLANBOOK_ACCEPTED, "%s has no trial %" PRIu64, input_title(given->operands[0]), trial);
     if (number >= sheets[*sheet].count)
         refuse(PLANBOOK_ACCEPTED, "trial %" PRIu64 " of %s has the places 0 to %u, and not %" PRIu64, trial,
-               input_title(given->words[0]), (unsigned)sheets[*sheet].count - 1, number);
+               input_title(given->operands[0]), (unsigned)sheets[*sheet].count - 1, number);
     *place = (size_t)number;
 }
 
@@ -346,9 +346,9 @@ void run_find(const struct arguments *given)
 {
     struct sheet sheets[PLANBOOK_MAX_SHEETS];
     size_t sheet, place;
-    struct bytes sealed = sealed_book(given->words[0]);
+    struct bytes sealed = sealed_book(given->operands[0]);
     size_t n = read_sheets(sealed, sheets);
-    (given->words[2] == NULL ? find_label : find_place)(given, sheets, n, &sheet, &place);
+    (given->operands[2] == NULL ? find_label : find_place)(given, sheets, n, &sheet, &place);
     struct bytes book = opened(given, sealed);
     release(&sealed);
     read_sheets(book, sheets);
@@ -358,17 +358,17 @@ void run_find(const struct arguments *given)
 
 void run_pack(const struct arguments *given)
 {
-    expect_no_terminal(given->words[1]);
-    struct bytes plan = read_csv(given->words[0]);
+    expect_no_terminal(given->operands[1]);
+    struct bytes plan = read_csv(given->operands[0]);
     struct bytes book = packed_plan(given, plan, AS_GIVEN);
     release(&plan);
-    write_one(given->words[1], book, true, given_force(given));
+    write_one(given->operands[1], book, true, given_force(given));
 }
 
 void run_unpack(const struct arguments *given)
 {
     expect_two_places(given);
-    struct bytes book = clear_book(given->words[0]);
+    struct bytes book = clear_book(given->operands[0]);
     write_plan(given, book);
     release(&book);
 }
@@ -377,23 +377,23 @@ void run_unpack(const struct arguments *given)
 void run_page(const struct arguments *given)
 {
     uint64_t sheet = given_sheet(given);
-    struct bytes book = read_book(given->words[0]);
+    struct bytes book = read_book(given->operands[0]);
     struct bytes page = new_bytes(planbook_page_length(book.at, book.len, sheet));
     uint32_t check = call_for_page(book, sheet, page);
     if (check != PLANBOOK_ACCEPTED)
-        refuse_page(input_title(given->words[0]), book, sheet, check);
+        refuse_page(input_title(given->operands[0]), book, sheet, check);
     release(&book);
-    write_one(given->words[1], page, true, given_force(given));
+    write_one(given->operands[1], page, true, given_force(given));
 }
 
 /* Whether the output is the text or the sealed note is not known here, so it is kept like the text. */
 void run_note(const struct arguments *given)
 {
     struct bytes counter = given_counter(given);
-    expect_no_terminal(given->words[1]);
-    struct bytes note = read_input(given->words[0], PLANBOOK_MAX_NOTE_BYTES);
+    expect_no_terminal(given->operands[1]);
+    struct bytes note = read_input(given->operands[0], PLANBOOK_MAX_NOTE_BYTES);
     struct bytes out = crypt_note(given, counter, note);
     release(&counter);
     release(&note);
-    write_one(given->words[1], out, true, given_force(given));
+    write_one(given->operands[1], out, true, given_force(given));
 }

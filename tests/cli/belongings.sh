@@ -50,9 +50,9 @@ test_install() {
     judge "the example with a sealed book" 1 "sealed128: refused, check 6:" $?
     same t s
     holds "the example makes nothing of a sealed book" [ ! -e t2 ]
-    for words in "" clear "clear t2 two"; do
-        ./seal_book $words 2>err
-        judge "the example with the words '$words'" 2 "usage: seal_book CLEAR SEALED [CLEAR SEALED]..." $?
+    for operands in "" clear "clear t2 two"; do
+        ./seal_book $operands 2>err
+        judge "the example with the operands '$operands'" 2 "usage: seal_book CLEAR SEALED [CLEAR SEALED]..." $?
     done
     ./seal_book missing t2 2>err
     judge "the example without a book" 2 "missing: No such file or directory" $?
@@ -63,7 +63,7 @@ test_install() {
     rm -f s s2 t two key
 }
 
-# completes WORDS..: what bash offers for the last of the words.
+# completes ARGUMENT..: what bash offers for the last of the arguments.
 completes() {
     bash -c '. "$1/cli/planbook.bash"; shift; compopt() { :; }
         COMP_WORDS=(planbook "$@"); COMP_CWORD=$#; _planbook; printf "%s\n" "${COMPREPLY[@]}"' bash "$here" "$@"

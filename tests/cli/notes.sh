@@ -113,7 +113,7 @@ test_bad_counters() {
         bad_counter 1 "the counter block is $((${#bad} / 2)) bytes long, not 16, which are 32 hexadecimal digits [check 3]" "$bad"
     done
     bad_counter 1 "the counter block is 1,000 bytes long, not 16, which are 32 hexadecimal digits [check 3]" "$(printf %02000d 0)"
-    # what is wrong with the words is told before anything is read
+    # what is wrong with the arguments is said before anything is read
     cp note in
     { "$planbook" note --key key128 --counter 0x00 - x 2>err; echo $? >status; cat >rest; } <in
     judge "a bad counter block, and standard input" 2 "$digits: byte 2 is none" "$(cat status)"

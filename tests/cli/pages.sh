@@ -146,7 +146,7 @@ test_bad_sheets() {
         expect_exactly 2 "planbook: --sheet takes a number: $not_shown" page --sheet "$sheet" three x
         holds "nothing is made of --sheet $sheet" [ ! -e x ]
     done
-    # what is wrong with the words is told before anything is read
+    # what is wrong with the arguments is said before anything is read
     { "$planbook" page --sheet one - x 2>err; echo $? >status; cat >rest; } <three
     judge "a bad sheet, and standard input" 2 "--sheet takes a number: one" "$(cat status)"
     same rest three

@@ -3,7 +3,7 @@
 header=trial,entry,replicate,row,column
 good=41,7,2,12,3
 
-# reads_as_sample WHAT FORMAT WORDS..: the plan that printf makes of them gives the sample book, without a word.
+# reads_as_sample WHAT FORMAT VALUE..: the plan that printf makes of them gives the sample book, without a message.
 reads_as_sample() {
     what=$1
     shift

@@ -31,9 +31,9 @@ test_usage() {
         expect_nothing x 2 "$verb has no option --counter; planbook $verb --help lists them" $verb --key key128 --counter $counter clear x
     done
     expect_nothing x 2 "note has no option --trials" note --key key128 --counter $counter --trials trials.csv note x
-    expect_nothing x 2 "y is one word too many: note takes [NOTE [OUT]]" note --key key128 --counter $counter note x y
-    expect_nothing x 2 "y is one word too many: seal takes [PLAN | CLEAR [SEALED]]" seal --key key128 clear x y
-    expect_nothing x 2 "y is one word too many: page takes [CLEAR [TEXT]]" page clear x y
+    expect_nothing x 2 "y is one operand too many: note takes [NOTE [OUT]]" note --key key128 --counter $counter note x y
+    expect_nothing x 2 "y is one operand too many: seal takes [PLAN | CLEAR [SEALED]]" seal --key key128 clear x y
+    expect_nothing x 2 "y is one operand too many: page takes [CLEAR [TEXT]]" page clear x y
     expect_nothing x 2 "--sheet needs a value: N" page clear x --sheet
     expect_nothing x 2 "--sheet is given twice" page --sheet 0 --sheet=0 clear x
     for option in --key --key-hex --way --trials --json; do
@@ -50,11 +50,11 @@ test_usage() {
         expect_nothing x 2 "--way takes a number: $way" seal --key key128 --way "$way" clear x
     done
     expect_nothing x 2 "--way takes a number: $not_shown" seal --key key128 --way 18446744073709551616 clear x
-    # after --, a word is no option
+    # after --, an argument is no option
     cp clear ./--force
     expect 0 "" seal --key key128 -- --force x
     same x sealed128
-    expect 2 "is one word too many" seal --key key128 -- clear x --force
+    expect 2 "is one operand too many" seal --key key128 -- clear x --force
     rm -f x ./--force
     cp clear ./-h
     expect 0 "" show -- -h
@@ -63,15 +63,15 @@ test_usage() {
 
 test_help() {
     verbs='keygen|check|seal|open|show|labels|find|pack|unpack|page|note'
-    for words in --help -h help; do
-        expect 0 "" $words
-        holds "$words names every verb" [ "$(grep -cE "planbook ($verbs) " out)" -eq 11 ]
-        holds "$words says what each does" [ "$(grep -cE "^  ($verbs) +[A-Z]" out)" -eq 11 ]
+    for asked in --help -h help; do
+        expect 0 "" $asked
+        holds "$asked names every verb" [ "$(grep -cE "planbook ($verbs) " out)" -eq 11 ]
+        holds "$asked says what each does" [ "$(grep -cE "^  ($verbs) +[A-Z]" out)" -eq 11 ]
     done
     for verb in $(echo $verbs | tr '|' ' '); do
         "$planbook" --help | sed -n "s/.*\(planbook $verb .*\)/usage: \1/p" >wanted
-        for words in "help $verb" "$verb --help" "$verb -h" "$verb x --help"; do
-            expect 0 "" $words
+        for asked in "help $verb" "$verb --help" "$verb -h" "$verb x --help"; do
+            expect 0 "" $asked
             head -n 1 out >first
             same first wanted
         done
@@ -88,9 +88,9 @@ test_help() {
     holds "the help of page has its options" [ "$(grep -cE '^  --(sheet|force) ' out)" -eq 2 ]
     holds "and no others" [ "$(grep -cE '^  --' out)" -eq 2 ]
     expect 2 "close is not a verb" help close
-    expect 2 "seal is one word too many after --help" --help seal
-    expect 2 "x is one word too many after seal" help seal x
-    expect 2 "x is one word too many after --version" --version x
+    expect 2 "seal is one operand too many after --help" --help seal
+    expect 2 "x is one operand too many after seal" help seal x
+    expect 2 "x is one operand too many after --version" --version x
     expect 0 "" --version
     sed -n 's/^#define PLANBOOK_VERSION "\(.*\)"/planbook \1/p' "$here/include/planbook.h" >wanted
     same out wanted

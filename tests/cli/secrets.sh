@@ -36,7 +36,7 @@ give_file() {
 
 # Every place of the command line, with the text itself. An output of that name is not made: its folder is missing.
 give_text() {
-    for line in "@" "help @" "help seal @" "--version @" "check @" "check plan.csv @" "check --trials @ plan.csv" \
+    for line in "@" "help @" "help @ x" "help seal @" "--version @" "check @" "check plan.csv @" "check --trials @ plan.csv" \
         "seal --key @ clear x" "seal --key-hex @ clear x" "seal --key key128 @ x" "seal --key key128 clear x @" \
         "seal --key key128 --way @ clear x" "open --key @ sealed128 x" "open --key-hex @ sealed128 x" "open --key key128 @ x" \
         "show @" "show --key @ sealed128" "labels @" "find --key key128 sealed128 @" "find --key key128 sealed128 @ 0" \

@@ -191,8 +191,8 @@ test_find() {
     expect_exactly 2 "$bad: there are 0" find --key key128 s " "
     expect_exactly 2 "$bad: byte 17 is none" find --key key128 s "de2bf2fd9b74aacd f1298555459494fd"
     expect 2 "PLACE takes a number: x" find --key key128 s 41 x
-    expect 2 "find needs more words: SEALED LABEL | SEALED TRIAL PLACE" find --key key128 s
-    expect 2 "9 is one word too many" find --key key128 s 41 0 9
+    expect 2 "find needs more operands: SEALED LABEL | SEALED TRIAL PLACE" find --key key128 s
+    expect 2 "9 is one operand too many" find --key key128 s 41 0 9
     expect 1 "[check 6]" find --key key128 clear $cipher128
     expect 1 "s does not open under this key" find --key key192 s $cipher128
     same out empty
@@ -220,7 +220,7 @@ test_keygen() {
     same k kept
     expect_nothing x 2 "--bits 100: a key has 128, 192 or 256 bits" keygen --bits 100 x
     expect_nothing x 2 "--bits takes a number: long" keygen --bits=long x
-    expect 2 "keygen needs more words: FILE" keygen
+    expect 2 "keygen needs more operands: FILE" keygen
     expect 0 "" keygen --bits 256 -
     holds "a key goes to standard output" [ "$(wc -c <out)" -eq 32 ]
     # the key is what the system gave, piece by piece; one that is all digits is drawn again
@@ -248,7 +248,7 @@ test_check() {
     same out wanted
     : >before; : >after
     find . | sort >before
-    expect 2 "x is one word too many" check plan.csv x
+    expect 2 "x is one operand too many" check plan.csv x
     find . | sort >after
     same before after
 }
