@@ -1,5 +1,10 @@
 /* The command line. Usage and help are made from the same tables that the options are read by. */
-#include "cli.h"
+#include "arguments.h"
+
+#include "messages.h"
+#include "outputs.h"
+#include "text.h"
+#include "planbook.h"
 
 #include <stdio.h>
 #include <stdlib.h>
@@ -13,11 +18,15 @@ struct option_text {
 
 static const struct option_text options[OPTIONS] = {
     [KEY] = {"--key", "FILE", "the key: 16, 24 or 32 raw bytes, as keygen makes them"},
-    [KEY_HEX] = {"--key-hex", "FILE", "the key in hexadecimal, with or without one line feed at the end"},
-    [COUNTER] = {"--counter", "HEX", "the note's counter block, 32 hexadecimal digits; each sealing needs another one"},
-    [WAY] = {"--way", "N", "1 byte tables, 2 word tables (default), 3 S-boxes computed; the result is the same"},
+    [KEY_HEX] = {"--key-hex", "FILE",
+                 "the key in hexadecimal, with or without one line feed at the end"},
+    [COUNTER] = {"--counter", "HEX",
+                 "the note's counter block, 32 hexadecimal digits; each sealing needs another one"},
+    [WAY] = {"--way", "N",
+             "1 byte tables, 2 word tables (default), 3 S-boxes computed; the result is the same"},
     [TRIALS] = {"--trials", "CSV", "the trials' numbers of replicates and start blocks"},
-    [SHEET] = {"--sheet", "N", "the sheet of the page, 0 (default) for the first; show lists the trials in their order"},
+    [SHEET] = {"--sheet", "N",
+               "the sheet of the page, 0 (default) for the first; show lists them in their order"},
     [BITS] = {"--bits", "N", "the length of the new key: 128 (default), 192 or 256"},
     [CSV] = {"--csv", NULL, "give the plan as CSV; a name that ends in .csv does that by itself"},
     [JSON] = {"--json", NULL, "give JSON, for other programs"},
@@ -30,7 +39,8 @@ static void print_synopsis(struct text *to, const struct verb *verb)
 {
     text_print(to, "planbook %s", verb->name);
     if (verb->takes[KEY])
-        text_print(to, verb->needs_key != NO_KEY ? " --key FILE | --key-hex FILE" : " [--key FILE | --key-hex FILE]");
+        text_print(to, verb->needs_key != NO_KEY ? " --key FILE | --key-hex FILE"
+                                                 : " [--key FILE | --key-hex FILE]");
     if (verb->takes[COUNTER])
         text_print(to, " %s %s", options[COUNTER].name, options[COUNTER].value);
     for (size_t i = WAY; i < OPTIONS; i++)
@@ -44,7 +54,8 @@ static void print_options(struct text *to, const bool *takes)
 {
     for (size_t i = 0; i < OPTIONS; i++)
         if (takes == NULL || takes[i])
-            text_print(to, "  %-9s %-5s %s\n", options[i].name, options[i].value != NULL ? options[i].value : "", options[i].meaning);
+            text_print(to, "  %-9s %-5s %s\n", options[i].name,
+                       options[i].value != NULL ? options[i].value : "", options[i].meaning);
 }
 
 static void print_usage(struct text *to, const struct verb *verbs, size_t count)
@@ -58,8 +69,9 @@ static void print_usage(struct text *to, const struct verb *verbs, size_t count)
         text_print(to, "  %-7s %s\n", verbs[i].name, verbs[i].summary);
     text_print(to, "\nA file that is not named, or named -, is standard input or output.\n\n");
     print_options(to, NULL);
-    text_print(to, "\nExit status: 0 done; 1 refused by the library, with the check's number, or nothing found; 2 wrong usage, or a\n"
-                   "file error. The manual page says more: man planbook.\n");
+    text_print(to, "\nExit status: 0 done; 1 refused by the library, with the check's number, or\n"
+                   "nothing found; 2 wrong usage, or a file error. The manual page says more:\n"
+                   "man planbook.\n");
 }
 
 static void write_and_release(struct text *text)
@@ -116,26 +128,34 @@ static bool asks_for_help(const char *argument)
     return strcmp(argument, "--help") == 0 || strcmp(argument, "-h") == 0;
 }
 
-/* An option by its name. The file of trials had start blocks alone once, and the option's name of that time is still taken. */
+/*
+ * An option by its name. The file of trials had start blocks alone once, and the option's name of
+ * that time is still taken.
+ */
 static size_t find_option(const char *name, size_t len)
 {
     static const char former[] = "--starts";
     if (len == strlen(former) && memcmp(former, name, len) == 0)
         return TRIALS;
     size_t i = 0;
-    while (i < OPTIONS && (strlen(options[i].name) != len || memcmp(options[i].name, name, len) != 0))
+    while (i < OPTIONS &&
+           (strlen(options[i].name) != len || memcmp(options[i].name, name, len) != 0))
         i++;
     return i;
 }
 
-/* Options are written out whole, with the value after = or as the next argument. Answers how many arguments were taken. */
+/*
+ * Options are written out whole, with the value after = or as the next argument. Answers how many
+ * arguments were taken.
+ */
 static int take_option(const struct verb *verb, struct arguments *given, char **argv)
 {
     const char *equals = strchr(argv[0], '=');
     size_t len = equals != NULL ? (size_t)(equals - argv[0]) : strlen(argv[0]);
     size_t i = find_option(argv[0], len);
     if (i == OPTIONS || !verb->takes[i])
-        fail("%s has no option %s; planbook %s --help lists them", verb->name, shown(argv[0]), verb->name);
+        fail("%s has no option %s; planbook %s --help lists them", verb->name, shown(argv[0]),
+             verb->name);
     if (given->value[i] != NULL)
         fail("%s is given twice", options[i].name);
     if (options[i].value == NULL && equals != NULL)
@@ -158,8 +178,8 @@ static void expect_key(const struct verb *verb, const struct arguments *given)
 static void expect_counter(const struct verb *verb, const struct arguments *given)
 {
     if (verb->takes[COUNTER] && given->value[COUNTER] == NULL)
-        fail("%s needs a counter block, by --counter: for a new note 32 hexadecimal digits that were never used under its key, for a "
-             "sealed note those that it was sealed from",
+        fail("%s needs a counter block, by --counter: for a new note 32 hexadecimal digits that "
+             "were never used under its key, for a sealed note those that it was sealed from",
              verb->name);
 }
 
@@ -179,7 +199,8 @@ static bool read_rest(const struct verb *verb, char **argv, struct arguments *gi
             argv += take_option(verb, given, argv);
         } else {
             if (count == verb->most_operands)
-                fail("%s is one operand too many: %s takes %s", shown(*argv), verb->name, verb->operands);
+                fail("%s is one operand too many: %s takes %s", shown(*argv), verb->name,
+                     verb->operands);
             given->operands[count++] = *argv++;
         }
     }
@@ -213,7 +234,8 @@ static bool answer_about_command(const struct verb *verbs, size_t count, char **
     return true;
 }
 
-const struct verb *read_arguments(const struct verb *verbs, size_t count, char **argv, struct arguments *given)
+const struct verb *read_arguments(const struct verb *verbs, size_t count, char **argv,
+                                  struct arguments *given)
 {
     if (answer_about_command(verbs, count, argv))
         return NULL;

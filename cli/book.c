@@ -1,8 +1,9 @@
 /*
- * A book's parts. Whether a book is in order is decided by the library alone: these functions read only what it has accepted
- * so far, so they check nothing, and they write books for it to accept or refuse.
+ * A book's parts. Whether a book is in order is decided by the library alone: these functions read
+ * only what it has accepted so far, so they check nothing, and they write books for it to accept or
+ * refuse.
  */
-#include "cli.h"
+#include "book.h"
 
 #include <string.h>
 
@@ -41,7 +42,10 @@ size_t sheet_count(struct bytes book)
     return get_16(book.at + 2);
 }
 
-/* Contents entry: trial in four bytes, record count in two, number of replicates in one, a zero byte, start block. */
+/*
+ * Contents entry: trial in four bytes, record count in two, number of replicates in one, a zero
+ * byte, start block.
+ */
 void put_entry(uint8_t *at, const struct sheet *sheet)
 {
     put_32(at, sheet->trial);
@@ -68,7 +72,8 @@ bool entry_has_zero(struct bytes book, size_t sheet)
 struct sheet read_entry(struct bytes book, size_t sheet)
 {
     const uint8_t *entry = entry_of(book, sheet);
-    return (struct sheet){get_32(entry), get_16(entry + 4), entry[6], start_block_of(book, sheet), NULL};
+    return (struct sheet){get_32(entry), get_16(entry + 4), entry[6], start_block_of(book, sheet),
+                          NULL};
 }
 
 uint32_t replicates_of(const struct sheet *sheet)
@@ -88,7 +93,10 @@ size_t read_sheets(struct bytes book, struct sheet sheets[PLANBOOK_MAX_SHEETS])
     return n;
 }
 
-/* Record: trial and entry in four bytes each, replicate in one, row and column in two each, three zero bytes. */
+/*
+ * Record: trial and entry in four bytes each, replicate in one, row and column in two each, three
+ * zero bytes.
+ */
 struct record read_record(const struct sheet *sheet, size_t place)
 {
     const uint8_t *at = sheet->records + PLANBOOK_RECORD_BYTES * place;

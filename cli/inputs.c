@@ -1,6 +1,8 @@
 /* Inputs. Each is remembered, so that no output can take its place. */
 #define _POSIX_C_SOURCE 200809L
-#include "cli.h"
+#include "inputs.h"
+
+#include "messages.h"
 
 #include <errno.h>
 #include <fcntl.h>
@@ -27,7 +29,8 @@ const char *input_title(const char *name)
 bool is_input(const struct stat *file)
 {
     for (size_t i = 0; i < input_count; i++)
-        if (S_ISREG(file->st_mode) && file->st_dev == inputs[i].st_dev && file->st_ino == inputs[i].st_ino)
+        if (S_ISREG(file->st_mode) && file->st_dev == inputs[i].st_dev &&
+            file->st_ino == inputs[i].st_ino)
             return true;
     return false;
 }
@@ -88,6 +91,7 @@ struct bytes read_secret_input(const char *name, size_t limit)
     struct stat file;
     struct bytes bytes = read_and_note(name, limit, &file);
     if (S_ISREG(file.st_mode) && (file.st_mode & (S_IRGRP | S_IROTH)) != 0)
-        warn("%s may be read by others (mode %03o); chmod 600 keeps it to you", input_title(name), (unsigned)file.st_mode & 0777);
+        warn("%s may be read by others (mode %03o); chmod 600 keeps it to you", input_title(name),
+             (unsigned)file.st_mode & 0777);
     return bytes;
 }

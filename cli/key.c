@@ -1,6 +1,12 @@
-/* Keys. The user says which form the file has; it is never guessed from the contents. Also random bytes, of which keys are made. */
+/*
+ * Keys. The user says which form the file has; it is never guessed from the contents. Also random
+ * bytes, of which keys are made.
+ */
 #define _DEFAULT_SOURCE
-#include "cli.h"
+#include "key.h"
+
+#include "inputs.h"
+#include "messages.h"
 
 #include <errno.h>
 #include <stdio.h>
@@ -57,14 +63,16 @@ static bool is_all_hex(struct bytes text)
 }
 
 /*
- * Raw bytes. A wrong length is left to the library, whose check 1 it is. A key file in hexadecimal would pass for 32 raw bytes
- * and seal a book that nobody else can open; a raw key looks like one no more than once in 10^17.
+ * Raw bytes. A wrong length is left to the library, whose check 1 it is. A key file in hexadecimal
+ * would pass for 32 raw bytes and seal a book that nobody else can open; a raw key looks like one
+ * no more than once in 10^17.
  */
 struct bytes read_key(const char *name)
 {
     struct bytes key = read_secret_input(name, KEY_FILE_LIMIT);
     if (is_all_hex(key))
-        fail("%s is all hexadecimal digits: take --key-hex for a key that is written so", input_title(name));
+        fail("%s is all hexadecimal digits: take --key-hex for a key that is written so",
+             input_title(name));
     return key;
 }
 
@@ -72,14 +80,16 @@ struct bytes read_hex_key(const char *name)
 {
     struct bytes text = read_secret_input(name, KEY_FILE_LIMIT);
     if (text.len > KEY_FILE_LIMIT)
-        fail("the key in %s is more than %s bytes long, and a key has 32, 48 or 64 digits", input_title(name), grouped(KEY_FILE_LIMIT));
+        fail("the key in %s is more than %s bytes long, and a key has 32, 48 or 64 digits",
+             input_title(name), grouped(KEY_FILE_LIMIT));
     if (text.len > 0 && text.at[text.len - 1] == '\n')
         text.len--;
     for (size_t i = 0; i < text.len; i++)
         if (hex_digit(text.at[i]) < 0)
             fail("%s: byte %zu of the key is not a hexadecimal digit", input_title(name), i + 1);
     if (text.len % 2 != 0)
-        fail("%s: the key has an odd number of hexadecimal digits, %zu", input_title(name), text.len);
+        fail("%s: the key has an odd number of hexadecimal digits, %zu", input_title(name),
+             text.len);
     struct bytes key = new_bytes(text.len / 2);
     read_hex(text, key.at, key.len);
     release(&text);

@@ -1,5 +1,8 @@
-/* The lines of a plan and of a file of trials. The line number decides between equals, so lines of one trial keep their order. */
-#include "cli.h"
+/*
+ * The lines of a plan and of a file of trials. The line number decides between equals, so lines of
+ * one trial keep their order.
+ */
+#include "lines.h"
 
 #include <stdlib.h>
 
@@ -8,7 +11,9 @@ struct lines new_lines(struct bytes text, const char *name)
     size_t count = 1;
     for (size_t i = 0; i < text.len; i++)
         count += text.at[i] == '\n';
-    struct lines lines = {.name = name, .room = {new_bytes(count * sizeof *lines.all), new_bytes(count * sizeof *lines.sorted)}};
+    struct lines lines = {
+        .name = name,
+        .room = {new_bytes(count * sizeof *lines.all), new_bytes(count * sizeof *lines.sorted)}};
     lines.all = (struct line *)(void *)lines.room[0].at;
     lines.sorted = (const struct line **)(void *)lines.room[1].at;
     return lines;
@@ -65,7 +70,8 @@ bool same_plot(const struct record *x, const struct record *y)
 size_t trial_lines(const struct lines *lines, size_t from)
 {
     size_t to = from;
-    while (to < lines->count && lines->sorted[to]->record.trial == lines->sorted[from]->record.trial)
+    while (to < lines->count &&
+           lines->sorted[to]->record.trial == lines->sorted[from]->record.trial)
         to++;
     return to - from;
 }

@@ -1,9 +1,12 @@
 /*
- * Memory for keys, their words, books and text. The command asks for all of it here, and it is wiped before it is given back: by
- * release, or when the command ends, by whatever way.
+ * Memory for keys, their words, books and text. The command asks for all of it here, and it is
+ * wiped before it is given back: by release, or when the command ends, by whatever way.
  */
 #define _DEFAULT_SOURCE
-#include "cli.h"
+#include "memory.h"
+
+#include "messages.h"
+#include "planbook.h"
 
 #include <stdlib.h>
 #include <string.h>
@@ -51,7 +54,10 @@ void release_all(void)
         }
 }
 
-/* What was called before lies below this function on the stack, but for what an error has left in the middle. */
+/*
+ * What was called before is below this function on the stack, but for what an error has left in
+ * the middle.
+ */
 static void wipe_at_exit(void)
 {
     release_all();

@@ -1,21 +1,28 @@
 /*
- * Messages go to standard error, one line each, with the command's name before them. From there they get into logs and
- * screenshots, so none may show a key or a clear record, which may have been given by mistake for something else. This is the
- * rule for all that a message shows of what the user has given:
+ * Messages go to standard error, one line each, with the command's name before them. From there
+ * they get into logs and screenshots, so none may show a key or a clear record, which may have been
+ * given by mistake for something else. This is the rule for all that a message shows of what the
+ * user has given:
  *
- * - Of a file nothing is shown before it is known to be what it should be. Fields are shown of a CSV text whose header has all
- *   columns that it needs, and numbers of a book that begins as a book does.
- * - Of such a field, and of an argument of the command line, nothing is shown if it may be a key: if it has 16 hexadecimal
- *   digits in a row, which are half of the shortest key, or bytes that are no printable text, as raw keys have.
+ * - Of a file nothing is shown before it is known to be what it should be. Fields are shown of a
+ *   CSV text whose header has all columns that it needs, and numbers of a book that begins as a
+ *   book does.
+ * - Of such a field, and of an argument of the command line, nothing is shown if it may be a key:
+ *   if it has 16 hexadecimal digits in a row, which are half of the shortest key, or bytes that are
+ *   no printable text, as raw keys have.
  * - Counter blocks, labels and start blocks are written like a key, and are never shown.
  *
- * What is not shown is described: by its file, line and column, or by what is wrong with it. Since only printable text is
- * shown, a message cannot move the cursor or pretend to be two.
+ * What is not shown is described: by its file, line and column, or by what is wrong with it. Since
+ * only printable text is shown, a message cannot move the cursor or pretend to be two.
  */
 #define _DEFAULT_SOURCE
-#include "cli.h"
+#include "messages.h"
+
+#include "key.h"
+#include "planbook.h"
 
 #include <stdarg.h>
+#include <stdbool.h>
 #include <stdio.h>
 #include <stdlib.h>
 #include <string.h>
@@ -29,10 +36,15 @@ static const char not_shown[] = "(not shown, since it may be a key)";
 /* In this group, and in all. */
 static size_t warnings, faults, all_faults, all_faults_of_form;
 
-/* The bytes of the character here, in UTF-8; 0 where there is none that can be printed. 80 to 9f are control characters too. */
+/*
+ * The bytes of the character here, in UTF-8; 0 where there is none that can be printed. 80 to 9f
+ * are control characters too.
+ */
 static size_t character_length(const uint8_t *at, size_t left)
 {
-    size_t len = at[0] < 0x20 ? 0 : at[0] < 0x7f ? 1 : at[0] < 0xc2 ? 0 : at[0] < 0xe0 ? 2 : at[0] < 0xf0 ? 3 : at[0] < 0xf5 ? 4 : 0;
+    if (at[0] < 0x80)
+        return at[0] >= 0x20 && at[0] < 0x7f;
+    size_t len = at[0] < 0xc2 ? 0 : at[0] < 0xe0 ? 2 : at[0] < 0xf0 ? 3 : at[0] < 0xf5 ? 4 : 0;
     if (len > left)
         return 0;
     for (size_t i = 1; i < len; i++)
@@ -70,7 +82,8 @@ const char *shown_field(struct bytes field)
     bool whole = field.len <= MOST_SHOWN;
     if (may_be_key(field))
         return not_shown;
-    snprintf(text, sizeof text, "\"%.*s%s\"", (int)(whole ? field.len : MOST_SHOWN), (const char *)field.at, whole ? "" : "..");
+    snprintf(text, sizeof text, "\"%.*s%s\"", (int)(whole ? field.len : MOST_SHOWN),
+             (const char *)field.at, whole ? "" : "..");
     return text;
 }
 
@@ -133,7 +146,8 @@ void end_group(void)
     if (faults > MOST_PRINTED)
         fprintf(stderr, "planbook: and %s more faults\n", grouped(faults - MOST_PRINTED));
     if (warnings > MOST_PRINTED)
-        fprintf(stderr, "planbook: warning: and %s more warnings\n", grouped(warnings - MOST_PRINTED));
+        fprintf(stderr, "planbook: warning: and %s more warnings\n",
+                grouped(warnings - MOST_PRINTED));
     faults = warnings = 0;
 }
 

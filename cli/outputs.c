@@ -1,12 +1,15 @@
 /*
  * Outputs.
  *
- * An output file is first written under a temporary name in its own directory (mode 0600) and synchronised, and gets its
- * name only then, so that nobody ever sees a part of it. A temporary file is removed at every exit and by the usual
- * signals.
+ * An output file is first written under a temporary name in its own directory (mode 0600) and
+ * synchronised, and gets its name only then, so that nobody ever sees a part of it. A temporary
+ * file is removed at every exit and by the usual signals.
  */
 #define _GNU_SOURCE /* renameat2 */
-#include "cli.h"
+#include "outputs.h"
+
+#include "inputs.h"
+#include "messages.h"
 
 #include <errno.h>
 #include <fcntl.h>
@@ -18,7 +21,7 @@
 #include <sys/stat.h>
 #include <unistd.h>
 
-/* An output file on its way. */
+/* An output file that is being made. */
 struct pending {
     const struct output *output;
     char *temporary;
@@ -44,7 +47,7 @@ static void remove_unfinished(void)
 static void end_by_signal(int number)
 {
     remove_unfinished();
-    raise(number); /* SA_RESETHAND has put the default back, which ends the command when this handler returns */
+    raise(number); /* ends the command when this returns: SA_RESETHAND has put the default back */
 }
 
 void outputs_prepare(void)
@@ -59,8 +62,9 @@ void outputs_prepare(void)
     for (size_t i = 0; i < sizeof signals / sizeof *signals; i++)
         if (sigaction(signals[i], NULL, &before) == 0 && before.sa_handler != SIG_IGN)
             sigaction(signals[i], &ending, NULL);
-    signal(SIGXFSZ, SIG_IGN);                       /* a file size limit then shows as an error of write */
-    setrlimit(RLIMIT_CORE, &(struct rlimit){0, 0}); /* the key or its words would be in a core dump */
+    signal(SIGXFSZ, SIG_IGN); /* a file size limit then shows as an error of write */
+    setrlimit(RLIMIT_CORE,
+              &(struct rlimit){0, 0}); /* the key or its words would be in a core dump */
     atexit(remove_unfinished);
 }
 
@@ -131,7 +135,8 @@ static bool same_new_file(const char *x, const char *y)
 {
     struct stat in_x, in_y;
     char *directory_x = beside(x, "."), *directory_y = beside(y, ".");
-    bool same = stat(directory_x, &in_x) == 0 && stat(directory_y, &in_y) == 0 && same_file(&in_x, &in_y) &&
+    bool same = stat(directory_x, &in_x) == 0 && stat(directory_y, &in_y) == 0 &&
+                same_file(&in_x, &in_y) &&
                 strcmp(x + directory_length(x), y + directory_length(y)) == 0;
     free(directory_x);
     free(directory_y);
@@ -140,8 +145,10 @@ static bool same_new_file(const char *x, const char *y)
 
 static void expect_two_files(const struct pending *x, const struct pending *y)
 {
-    if (x->exists && y->exists ? same_file(&x->old, &y->old) : same_new_file(x->output->name, y->output->name))
-        fail("%s and %s are one file, but each output needs a file of its own", shown(x->output->name), shown(y->output->name));
+    if (x->exists && y->exists ? same_file(&x->old, &y->old)
+                               : same_new_file(x->output->name, y->output->name))
+        fail("%s and %s are one file, but each output needs a file of its own",
+             shown(x->output->name), shown(y->output->name));
 }
 
 static int make_temporary(struct pending *p)
@@ -158,7 +165,10 @@ static int make_temporary(struct pending *p)
     return fd;
 }
 
-/* A replaced file's owner, group and mode go on. What the group might do is not given to another group. */
+/*
+ * A replaced file's owner, group and mode go on. What the group might do is not given to another
+ * group.
+ */
 static mode_t mode_of_replaced(int fd, const struct pending *p)
 {
     mode_t mode = p->old.st_mode & 0777;
@@ -167,11 +177,15 @@ static mode_t mode_of_replaced(int fd, const struct pending *p)
         fchown(fd, p->old.st_uid, p->old.st_gid) != 0)
         mode &= ~(mode_t)S_IRWXG;
     if (p->output->secret && (mode & (S_IRGRP | S_IROTH)) != 0)
-        warn("%s keeps its mode %03o, so others may read it", shown(p->output->name), (unsigned)mode);
+        warn("%s keeps its mode %03o, so others may read it", shown(p->output->name),
+             (unsigned)mode);
     return mode;
 }
 
-/* A file system without modes refuses, and what it has then is no wider than that of the temporary file. */
+/*
+ * A file system without modes refuses, and what it has then is no wider than that of the temporary
+ * file.
+ */
 static void set_mode(int fd, const struct pending *p)
 {
     mode_t mask = umask(077);
@@ -206,8 +220,8 @@ static int rename_to_reserved(const char *temporary, const char *name)
 }
 
 /*
- * A new name, never that of a file that has appeared meanwhile. Not every file system can link (vfat and exFAT cannot), and
- * not every other one can rename without replacing.
+ * A new name, never that of a file that has appeared meanwhile. Not every file system can link
+ * (vfat and exFAT cannot), and not every other one can rename without replacing.
  */
 static int make_name(const char *temporary, const char *name)
 {
@@ -229,7 +243,10 @@ static void give_name(struct pending *p)
     p->has_temporary = 0;
 }
 
-/* The name itself is safe from a loss of power only when its directory is. Some file systems cannot do this, and say EINVAL. */
+/*
+ * The name itself is safe from a loss of power only when its directory is. Some file systems cannot
+ * do this, and say EINVAL.
+ */
 static void synchronise_directory(const char *name)
 {
     char *directory = beside(name, ".");
@@ -238,7 +255,8 @@ static void synchronise_directory(const char *name)
     if (fd < 0)
         return; /* a directory may be writable and not readable */
     if (fsync(fd) != 0 && errno != EINVAL && errno != ENOTSUP)
-        fail("%s is made, but its directory cannot be synchronised: %s", shown(name), strerror(errno));
+        fail("%s is made, but its directory cannot be synchronised: %s", shown(name),
+             strerror(errno));
     close(fd);
 }
 

@@ -1,9 +1,14 @@
 /*
- * What the library refuses, in the words of the user's plan. The library has decided, and its number stands at the end of the
- * message; here the bytes are only looked through for what it must have met. A check that is answered tells that the ones
- * before it passed, so what they ask for is there to be read.
+ * What the library refuses, in the words of the user's plan. The library has decided, and its
+ * number is at the end of the message; here the bytes are only looked through for what it must
+ * have met. Where a check is answered, the ones before it have passed, so what they ask for is
+ * there to be read.
  */
-#include "cli.h"
+#include "refusals.h"
+
+#include "library.h"
+#include "messages.h"
+#include "plan.h"
 
 #include <inttypes.h>
 #include <stdarg.h>
@@ -17,18 +22,20 @@ static size_t contents_bytes(struct bytes book)
 static void refuse_length(const char *name, struct bytes book)
 {
     if (book.len < PLANBOOK_MIN_BOOK_BYTES)
-        refuse(PLANBOOK_CHECK_BOOK_LENGTH, "%s has %zu bytes, and a plan book has at least %d", name, book.len,
-               PLANBOOK_MIN_BOOK_BYTES);
-    refuse(PLANBOOK_CHECK_BOOK_LENGTH, "%s is longer than a plan book can be, which is %s bytes", name,
-           grouped(PLANBOOK_MAX_BOOK_BYTES));
+        refuse(PLANBOOK_CHECK_BOOK_LENGTH, "%s has %zu bytes, and a plan book has at least %d",
+               name, book.len, PLANBOOK_MIN_BOOK_BYTES);
+    refuse(PLANBOOK_CHECK_BOOK_LENGTH, "%s is longer than a plan book can be, which is %s bytes",
+           name, grouped(PLANBOOK_MAX_BOOK_BYTES));
 }
 
 static void refuse_kind(const char *name, struct bytes book, uint8_t wanted)
 {
     if (book.at[1] == 0 && book.at[0] == PLANBOOK_SEALED)
-        refuse(PLANBOOK_CHECK_BOOK_KIND, "%s is sealed already, and a clear book is needed here", name);
+        refuse(PLANBOOK_CHECK_BOOK_KIND, "%s is sealed already, and a clear book is needed here",
+               name);
     if (book.at[1] == 0 && book.at[0] == PLANBOOK_CLEAR)
-        refuse(PLANBOOK_CHECK_BOOK_KIND, "%s is a clear book, and a sealed one is needed here", name);
+        refuse(PLANBOOK_CHECK_BOOK_KIND, "%s is a clear book, and a sealed one is needed here",
+               name);
     if (is_plan(book))
         refuse(PLANBOOK_CHECK_BOOK_KIND, "%s is text, and a plan book is needed here", name);
     refuse(PLANBOOK_CHECK_BOOK_KIND, "%s is no %s plan book: it does not begin with %02x 00", name,
@@ -45,16 +52,19 @@ static void refuse_entry(const char *name, struct bytes book)
         if (sheet.trial == 0)
             refuse(PLANBOOK_CHECK_ENTRY, "%s, sheet %zu: trial 0, but trials begin at 1", name, i);
         if (sheet.trial <= before)
-            refuse(PLANBOOK_CHECK_ENTRY, "%s, sheet %zu: trial %u comes after trial %u, but trials must rise", name, i, trial,
-                   (unsigned)before);
+            refuse(PLANBOOK_CHECK_ENTRY,
+                   "%s, sheet %zu: trial %u comes after trial %u, but trials must rise", name, i,
+                   trial, (unsigned)before);
         if (sheet.count < 1 || sheet.count > PLANBOOK_MAX_SHEET_RECORDS)
-            refuse(PLANBOOK_CHECK_ENTRY, "%s: trial %u has %s plots, and a trial has 1 to %s", name, trial, grouped(sheet.count),
-                   grouped(PLANBOOK_MAX_SHEET_RECORDS));
+            refuse(PLANBOOK_CHECK_ENTRY, "%s: trial %u has %s plots, and a trial has 1 to %s", name,
+                   trial, grouped(sheet.count), grouped(PLANBOOK_MAX_SHEET_RECORDS));
         if (sheet.replicates > PLANBOOK_MAX_REPLICATES)
-            refuse(PLANBOOK_CHECK_ENTRY, "%s: trial %u has %u replicates, and a trial has at most %d", name, trial,
+            refuse(PLANBOOK_CHECK_ENTRY,
+                   "%s: trial %u has %u replicates, and a trial has at most %d", name, trial,
                    (unsigned)sheet.replicates, PLANBOOK_MAX_REPLICATES);
         if (!entry_has_zero(book, i))
-            refuse(PLANBOOK_CHECK_ENTRY, "%s: the reserved byte of trial %u in the contents is not zero", name, trial);
+            refuse(PLANBOOK_CHECK_ENTRY,
+                   "%s: the reserved byte of trial %u in the contents is not zero", name, trial);
         before = sheet.trial;
     }
     refuse(PLANBOOK_CHECK_ENTRY, "%s: %s", name, planbook_check_sentence(PLANBOOK_CHECK_ENTRY));
@@ -66,7 +76,8 @@ static void refuse_body_length(const char *name, struct bytes book)
     for (size_t i = 0; i < sheet_count(book); i++)
         records += read_entry(book, i).count;
     size_t said = contents_bytes(book) + PLANBOOK_RECORD_BYTES * records;
-    refuse(PLANBOOK_CHECK_BODY_LENGTH, "%s has %s bytes, but its contents say %s: %s", name, grouped(book.len), grouped(said),
+    refuse(PLANBOOK_CHECK_BODY_LENGTH, "%s has %s bytes, but its contents say %s: %s", name,
+           grouped(book.len), grouped(said),
            book.len < said ? "its end is missing" : "something was added");
 }
 
@@ -82,7 +93,10 @@ static const char *fault(const char *format, ...)
     return text;
 }
 
-/* The parts of the rule in the order that it is written in: trial, entry, replicate, plot, zero bytes. */
+/*
+ * The parts of the rule in the order that it is written in: trial, entry, replicate, plot, zero
+ * bytes.
+ */
 const char *record_fault(const struct record *record, const struct sheet *sheet)
 {
     unsigned trial = (unsigned)sheet->trial, replicates = (unsigned)replicates_of(sheet);
@@ -90,21 +104,24 @@ const char *record_fault(const struct record *record, const struct sheet *sheet)
     if (trial == 0)
         return "trial 0, but trials begin at 1";
     if (record->trial != trial)
-        return fault("a record of trial %u in the sheet of trial %u", (unsigned)record->trial, trial);
+        return fault("a record of trial %u in the sheet of trial %u", (unsigned)record->trial,
+                     trial);
     if (record->entry == 0)
         return "entry 0, but entries begin at 1";
     if (record->replicate == 0)
         return "replicate 0, but replicates begin at 1";
     if (record->replicate > replicates)
-        return fault("replicate %u, but trial %u has %u%s", (unsigned)record->replicate, trial, replicates,
-                     sheet->replicates == 0 ? ", the default" : "");
+        return fault("replicate %u, but trial %u has %u%s", (unsigned)record->replicate, trial,
+                     replicates, sheet->replicates == 0 ? ", the default" : "");
     if (row > PLANBOOK_MAX_ROW)
         return fault("row %u, but rows are from 1 to %d, or 0 in reserve", row, PLANBOOK_MAX_ROW);
     if (column > PLANBOOK_MAX_COLUMN)
-        return fault("column %u, but columns are from 1 to %d, or 0 in reserve", column, PLANBOOK_MAX_COLUMN);
+        return fault("column %u, but columns are from 1 to %d, or 0 in reserve", column,
+                     PLANBOOK_MAX_COLUMN);
     if ((row == 0) != (column == 0))
-        return fault("row %u and column %u: a plot in reserve has 0 for both, any other has both from 1 to %d", row, column,
-                     PLANBOOK_MAX_ROW);
+        return fault("row %u and column %u: a plot in reserve has 0 for both, any other has both "
+                     "from 1 to %d",
+                     row, column, PLANBOOK_MAX_ROW);
     return "the last three bytes of the record are not zero";
 }
 
@@ -115,10 +132,11 @@ static void refuse_record(const char *name, struct bytes book)
     size_t n = read_sheets(book, sheets);
     for (size_t i = 0; i < n; i++)
         for (size_t place = 0; place < sheets[i].count; place++)
-            if (check_record(&sheets[i], sheets[i].records + PLANBOOK_RECORD_BYTES * place) != PLANBOOK_ACCEPTED) {
+            if (check_record(&sheets[i], sheets[i].records + PLANBOOK_RECORD_BYTES * place) !=
+                PLANBOOK_ACCEPTED) {
                 struct record record = read_record(&sheets[i], place);
-                refuse(PLANBOOK_CHECK_RECORD, "%s, trial %u, place %zu: %s", name, (unsigned)sheets[i].trial, place,
-                       record_fault(&record, &sheets[i]));
+                refuse(PLANBOOK_CHECK_RECORD, "%s, trial %u, place %zu: %s", name,
+                       (unsigned)sheets[i].trial, place, record_fault(&record, &sheets[i]));
             }
     refuse(PLANBOOK_CHECK_RECORD, "%s: %s", name, planbook_check_sentence(PLANBOOK_CHECK_RECORD));
 }
@@ -130,11 +148,12 @@ static void refuse_form(const char *name, struct bytes book, uint32_t check, uin
     case PLANBOOK_CHECK_BOOK_LENGTH: refuse_length(name, book); break;
     case PLANBOOK_CHECK_BOOK_KIND: refuse_kind(name, book, wanted); break;
     case PLANBOOK_CHECK_SHEETS:
-        refuse(check, "%s says that it has %s trials, and a plan book has at most %d", name, grouped(sheet_count(book)),
-               PLANBOOK_MAX_SHEETS);
+        refuse(check, "%s says that it has %s trials, and a plan book has at most %d", name,
+               grouped(sheet_count(book)), PLANBOOK_MAX_SHEETS);
     case PLANBOOK_CHECK_CONTENTS_CUT:
-        refuse(check, "%s has %s bytes, but the contents of its %zu trials need %s: its end is missing", name, grouped(book.len),
-               sheet_count(book), grouped(contents_bytes(book)));
+        refuse(check,
+               "%s has %s bytes, but the contents of its %zu trials need %s: its end is missing",
+               name, grouped(book.len), sheet_count(book), grouped(contents_bytes(book)));
     case PLANBOOK_CHECK_ENTRY: refuse_entry(name, book); break;
     case PLANBOOK_CHECK_BODY_LENGTH: refuse_body_length(name, book); break;
     }
@@ -143,10 +162,11 @@ static void refuse_form(const char *name, struct bytes book, uint32_t check, uin
 void refuse_note(const char *name, struct bytes counter, uint32_t check)
 {
     if (check == PLANBOOK_CHECK_BLOCK_LENGTH)
-        refuse(check, "the counter block is %s bytes long, not %d, which are %d hexadecimal digits", grouped(counter.len),
-               PLANBOOK_COUNTER_BYTES, 2 * PLANBOOK_COUNTER_BYTES);
+        refuse(check, "the counter block is %s bytes long, not %d, which are %d hexadecimal digits",
+               grouped(counter.len), PLANBOOK_COUNTER_BYTES, 2 * PLANBOOK_COUNTER_BYTES);
     if (check == PLANBOOK_CHECK_NOTE_LENGTH)
-        refuse(check, "%s is longer than a note can be, which is %s bytes", name, grouped(PLANBOOK_MAX_NOTE_BYTES));
+        refuse(check, "%s is longer than a note can be, which is %s bytes", name,
+               grouped(PLANBOOK_MAX_NOTE_BYTES));
     refuse(check, "%s: %s", name, planbook_check_sentence(check));
 }
 
@@ -163,13 +183,17 @@ void refuse_sealed_book(const char *name, struct bytes book, uint32_t check)
     refuse_form(name, book, check, PLANBOOK_SEALED);
     if (check == PLANBOOK_CHECK_RECORD)
         refuse(check,
-               "%s does not open under this key: most likely it was sealed under another one, or changed since; or a version "
-               "before 2.0 sealed it, with a plot that is no longer permitted",
+               "%s does not open under this key: most likely it was sealed under another one, or "
+               "changed since; or a version before 2.0 sealed it, with a plot that is no longer "
+               "permitted",
                name);
     refuse(check, "%s: %s", name, planbook_check_sentence(check));
 }
 
-/* A trial's number may have been given for the sheet's: then which sheet the trial has, as the end of a sentence. */
+/*
+ * A trial's number may have been given for the sheet's: then which sheet the trial has, as the end
+ * of a sentence.
+ */
 static const char *sheet_of_trial(struct bytes book, uint64_t trial)
 {
     for (size_t i = 0; i < sheet_count(book); i++)
@@ -178,13 +202,16 @@ static const char *sheet_of_trial(struct bytes book, uint64_t trial)
     return "";
 }
 
-/* What to do about a sealed book or a plan; whoever wants a page has no reason to know. */
+/* What to do about a sealed book or a plan: anyone who wants a page need not know it. */
 static void refuse_kind_for_page(const char *name, struct bytes book)
 {
     if (book.at[0] == PLANBOOK_SEALED && book.at[1] == 0)
-        refuse(PLANBOOK_CHECK_BOOK_KIND, "%s is sealed, and a page needs a clear book: open it first", name);
+        refuse(PLANBOOK_CHECK_BOOK_KIND,
+               "%s is sealed, and a page needs a clear book: open it first", name);
     if (is_plan(book))
-        refuse(PLANBOOK_CHECK_BOOK_KIND, "%s is text, and a page needs a clear book: planbook pack makes one of a plan", name);
+        refuse(PLANBOOK_CHECK_BOOK_KIND,
+               "%s is text, and a page needs a clear book: planbook pack makes one of a plan",
+               name);
 }
 
 void refuse_page(const char *name, struct bytes book, uint64_t sheet, uint32_t check)
@@ -196,6 +223,6 @@ void refuse_page(const char *name, struct bytes book, uint64_t sheet, uint32_t c
     size_t sheets = sheet_count(book);
     if (sheets == 0)
         refuse(check, "%s has no sheets", name);
-    refuse(check, "%s has %zu sheet%s, counted from 0: there is no sheet %" PRIu64 "%s", name, sheets, sheets == 1 ? "" : "s",
-           sheet, sheet_of_trial(book, sheet));
+    refuse(check, "%s has %zu sheet%s, counted from 0: there is no sheet %" PRIu64 "%s", name,
+           sheets, sheets == 1 ? "" : "s", sheet, sheet_of_trial(book, sheet));
 }

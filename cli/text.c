@@ -1,5 +1,10 @@
-/* Text in memory. It grows by copying, so that what it leaves behind is wiped; a stream of the C library would not do that. */
-#include "cli.h"
+/*
+ * Text in memory. It grows by copying, so that what it leaves behind is wiped; a stream of the C
+ * library would not do that.
+ */
+#include "text.h"
+
+#include "messages.h"
 
 #include <stdarg.h>
 #include <stdio.h>

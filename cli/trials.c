@@ -1,8 +1,14 @@
 /*
- * The file of trials, which says what belongs to a whole trial: its start block (the field's IV) and its number of replicates.
- * Both columns may be absent: then start blocks are drawn, and the number is 0, which the format reads as 4.
+ * The file of trials, which says what belongs to a whole trial: its start block (the field's IV)
+ * and its number of replicates. Both columns may be absent: then start blocks are drawn, and the
+ * number is 0, which the format reads as 4.
  */
-#include "cli.h"
+#include "trials.h"
+
+#include "csv.h"
+#include "key.h"
+#include "messages.h"
+#include "text.h"
 
 #include <string.h>
 
@@ -19,18 +25,21 @@ static bool take_start_block(const struct csv *csv, struct line *line)
     struct bytes digits = csv_field(csv, START_BLOCK);
     bool good = read_hex(digits, line->start_block, PLANBOOK_BLOCK_BYTES);
     if (!good)
-        report(PLANBOOK_ACCEPTED, "%s, line %zu: the start block is not %d hexadecimal digits: %s", csv->name, csv->line,
-               2 * PLANBOOK_BLOCK_BYTES, hex_fault(digits));
+        report(PLANBOOK_ACCEPTED, "%s, line %zu: the start block is not %d hexadecimal digits: %s",
+               csv->name, csv->line, 2 * PLANBOOK_BLOCK_BYTES, hex_fault(digits));
     return good;
 }
 
 static bool take_replicates(const struct csv *csv, struct line *line)
 {
-    if (!csv_take_number(csv, REPLICATES, "number of replicates", UINT8_MAX, PLANBOOK_MAX_REPLICATES, &line->replicates))
+    if (!csv_take_number(csv, REPLICATES, "number of replicates", UINT8_MAX,
+                         PLANBOOK_MAX_REPLICATES, &line->replicates))
         return false;
     if (line->replicates > PLANBOOK_MAX_REPLICATES)
-        report(PLANBOOK_CHECK_ENTRY, "%s, line %zu: %u replicates, but a trial has 1 to %d, or 0 for the default of %d", csv->name,
-               csv->line, (unsigned)line->replicates, PLANBOOK_MAX_REPLICATES, PLANBOOK_DEFAULT_REPLICATES);
+        report(PLANBOOK_CHECK_ENTRY,
+               "%s, line %zu: %u replicates, but a trial has 1 to %d, or 0 for the default of %d",
+               csv->name, csv->line, (unsigned)line->replicates, PLANBOOK_MAX_REPLICATES,
+               PLANBOOK_DEFAULT_REPLICATES);
     return line->replicates <= PLANBOOK_MAX_REPLICATES;
 }
 
@@ -38,7 +47,8 @@ static void read_trial(const struct csv *csv, struct lines *lines)
 {
     struct line *line = &lines->all[lines->count];
     *line = (struct line){.line = csv->line};
-    if (!csv_take_number(csv, TRIAL, trials_columns[TRIAL], UINT32_MAX, UINT32_MAX, &line->record.trial))
+    if (!csv_take_number(csv, TRIAL, trials_columns[TRIAL], UINT32_MAX, UINT32_MAX,
+                         &line->record.trial))
         return;
     bool good = !csv_has(csv, START_BLOCK) || take_start_block(csv, line);
     good &= !csv_has(csv, REPLICATES) || take_replicates(csv, line);
@@ -51,8 +61,8 @@ static void report_repeated(const struct lines *lines)
     for (size_t i = 1; i < lines->count; i++) {
         const struct line *before = lines->sorted[i - 1], *line = lines->sorted[i];
         if (before->record.trial == line->record.trial)
-            report(PLANBOOK_ACCEPTED, "%s, line %zu: trial %u stands in line %zu already", lines->name, line->line,
-                   (unsigned)line->record.trial, before->line);
+            report(PLANBOOK_ACCEPTED, "%s, line %zu: trial %u is in line %zu already",
+                   lines->name, line->line, (unsigned)line->record.trial, before->line);
     }
 }
 
@@ -61,7 +71,8 @@ struct trials read_trials(struct bytes text, const char *name)
     size_t faults = reported();
     struct lines lines = new_lines(text, name);
     struct csv csv;
-    for (csv_begin(&csv, text, name, trials_columns, TRIALS_COLUMNS, NEEDED_COLUMNS); csv_next(&csv);)
+    for (csv_begin(&csv, text, name, trials_columns, TRIALS_COLUMNS, NEEDED_COLUMNS);
+         csv_next(&csv);)
         read_trial(&csv, &lines);
     sort_by_trial(&lines);
     report_repeated(&lines);
@@ -94,12 +105,12 @@ void match_trials(const struct lines *plan, const struct trials *trials)
         const struct line *line = i < plan->count ? plan->sorted[i] : NULL;
         const struct line *trial = t < lines->count ? lines->sorted[t] : NULL;
         if (trial == NULL || (line != NULL && line->record.trial < trial->record.trial)) {
-            report(PLANBOOK_ACCEPTED, "%s, line %zu: trial %u has no line in %s", plan->name, line->line, (unsigned)line->record.trial,
-                   lines->name);
+            report(PLANBOOK_ACCEPTED, "%s, line %zu: trial %u has no line in %s", plan->name,
+                   line->line, (unsigned)line->record.trial, lines->name);
             i += trial_lines(plan, i);
         } else if (line == NULL || trial->record.trial < line->record.trial) {
-            report(PLANBOOK_ACCEPTED, "%s, line %zu: trial %u has no line in %s", lines->name, trial->line,
-                   (unsigned)trial->record.trial, plan->name);
+            report(PLANBOOK_ACCEPTED, "%s, line %zu: trial %u has no line in %s", lines->name,
+                   trial->line, (unsigned)trial->record.trial, plan->name);
             t++;
         } else {
             i += trial_lines(plan, i);
@@ -116,19 +127,25 @@ static bool is_zero(const uint8_t *block)
     return memcmp(block, zero, sizeof zero) == 0;
 }
 
-/* A start block is to be used once under a key, and zeros are what everybody would take. Tells one such fault for each trial. */
-static void judge_start_blocks(struct bytes book, void tell(const char *name, uint32_t trial, uint32_t other), const char *name)
+/*
+ * A start block is to be used once under a key, and zeros are what everybody would take. Reports
+ * one such fault for each trial.
+ */
+static void judge_start_blocks(struct bytes book,
+                               void report_one(const char *name, uint32_t trial, uint32_t other),
+                               const char *name)
 {
     struct sheet sheets[PLANBOOK_MAX_SHEETS];
     size_t n = read_sheets(book, sheets);
     for (size_t i = 0; i < n; i++) {
         size_t other = 0;
-        while (other < i && memcmp(sheets[i].start_block, sheets[other].start_block, PLANBOOK_BLOCK_BYTES) != 0)
+        while (other < i &&
+               memcmp(sheets[i].start_block, sheets[other].start_block, PLANBOOK_BLOCK_BYTES) != 0)
             other++;
         if (is_zero(sheets[i].start_block))
-            tell(name, sheets[i].trial, 0);
+            report_one(name, sheets[i].trial, 0);
         else if (other < i)
-            tell(name, sheets[i].trial, sheets[other].trial);
+            report_one(name, sheets[i].trial, sheets[other].trial);
     }
     end_reports();
 }
@@ -136,20 +153,25 @@ static void judge_start_blocks(struct bytes book, void tell(const char *name, ui
 static void report_start_block(const char *name, uint32_t trial, uint32_t other)
 {
     if (other == 0)
-        report(PLANBOOK_ACCEPTED, "%s: the start block of trial %u is all zeros; without the column start_block, good ones are drawn",
+        report(PLANBOOK_ACCEPTED,
+               "%s: the start block of trial %u is all zeros; without the column start_block, good "
+               "ones are drawn",
                name, (unsigned)trial);
     else
         report(PLANBOOK_ACCEPTED,
-               "%s: trials %u and %u have the same start block; without the column start_block, good ones are drawn", name,
-               (unsigned)other, (unsigned)trial);
+               "%s: trials %u and %u have the same start block; without the column start_block, "
+               "good ones are drawn",
+               name, (unsigned)other, (unsigned)trial);
 }
 
 static void warn_of_start_block(const char *name, uint32_t trial, uint32_t other)
 {
     if (other == 0)
-        warn("%s: the start block of trial %u is all zeros; pack draws good ones", name, (unsigned)trial);
+        warn("%s: the start block of trial %u is all zeros; pack draws good ones", name,
+             (unsigned)trial);
     else
-        warn("%s: trials %u and %u have the same start block; pack draws good ones", name, (unsigned)other, (unsigned)trial);
+        warn("%s: trials %u and %u have the same start block; pack draws good ones", name,
+             (unsigned)other, (unsigned)trial);
 }
 
 void report_start_blocks(const char *name, struct bytes book)
@@ -171,7 +193,8 @@ void warn_of_replicates(const char *name, struct bytes book)
     for (size_t i = 0; i < n; i++)
         numbered += sheets[i].replicates != 0;
     if (numbered > 0)
-        warn("%s: a plan does not say the number of replicates, which %zu of %zu trials have chosen; --trials writes a file that does",
+        warn("%s: a plan does not say the number of replicates, which %zu of %zu trials have "
+             "chosen; --trials writes a file that does",
              name, numbered, n);
 }
 

@@ -1,6 +1,19 @@
 /* What each verb does. */
 #define _POSIX_C_SOURCE 200809L
-#include "cli.h"
+#include "verbs.h"
+
+#include "book.h"
+#include "inputs.h"
+#include "json.h"
+#include "key.h"
+#include "library.h"
+#include "messages.h"
+#include "outputs.h"
+#include "plan.h"
+#include "refusals.h"
+#include "tables.h"
+#include "text.h"
+#include "trials.h"
 
 #include <errno.h>
 #include <inttypes.h>
@@ -9,14 +22,18 @@
 #include <strings.h>
 #include <unistd.h>
 
-/* Far above any plan that fits a book, so that what is too long is refused with what it holds and not here. */
+/*
+ * Far above any plan that fits a book, so that one that is too long for a book is refused for that
+ * and not here.
+ */
 #define CSV_LIMIT ((size_t)1 << 20)
 
 /* What the options say */
 
 static struct bytes given_key(const struct arguments *given)
 {
-    return given->value[KEY] != NULL ? read_key(given->value[KEY]) : read_hex_key(given->value[KEY_HEX]);
+    return given->value[KEY] != NULL ? read_key(given->value[KEY])
+                                     : read_hex_key(given->value[KEY_HEX]);
 }
 
 static const char *key_title(const struct arguments *given)
@@ -36,7 +53,8 @@ static uint64_t read_number(const char *what, const char *text)
 
 static uint64_t given_way(const struct arguments *given)
 {
-    return given->value[WAY] != NULL ? read_number("--way", given->value[WAY]) : PLANBOOK_WAY_WORD_TABLES;
+    return given->value[WAY] != NULL ? read_number("--way", given->value[WAY])
+                                     : PLANBOOK_WAY_WORD_TABLES;
 }
 
 static uint64_t given_sheet(const struct arguments *given)
@@ -51,7 +69,8 @@ static struct bytes given_counter(const struct arguments *given)
     struct bytes digits = {(uint8_t *)text, strlen(text)};
     struct bytes counter = new_bytes(digits.len / 2);
     if (!read_hex(digits, counter.at, counter.len))
-        fail("--counter takes %d hexadecimal digits and nothing else: %s", 2 * PLANBOOK_COUNTER_BYTES, hex_fault(digits));
+        fail("--counter takes %d hexadecimal digits and nothing else: %s",
+             2 * PLANBOOK_COUNTER_BYTES, hex_fault(digits));
     return counter;
 }
 
@@ -67,7 +86,8 @@ static bool gives_plan(const struct arguments *given)
 static void expect_no_terminal(const char *output)
 {
     if (is_standard(output) && isatty(STDOUT_FILENO))
-        fail("books, keys and notes may be any bytes, and do not go to a terminal: name an output file, or send standard output "
+        fail("books, keys and notes may be any bytes, and do not go to a terminal: name an output "
+             "file, or send standard output "
              "somewhere else");
 }
 
@@ -115,14 +135,15 @@ static struct bytes sealed_book(const char *name)
 }
 
 /* The plan that pack, check and seal are given, with what a file of trials says. */
-static struct bytes packed_plan(const struct arguments *given, struct bytes plan, enum start_blocks start_blocks)
+static struct bytes packed_plan(const struct arguments *given, struct bytes plan,
+                                enum start_blocks start_blocks)
 {
     const char *name = given->value[TRIALS];
     struct bytes trials = {NULL, 0};
     if (name != NULL)
         trials = read_csv(name);
-    struct bytes book =
-        pack_plan(plan, input_title(given->operands[0]), name != NULL ? &trials : NULL, input_title(name), start_blocks);
+    struct bytes book = pack_plan(plan, input_title(given->operands[0]),
+                                  name != NULL ? &trials : NULL, input_title(name), start_blocks);
     release(&trials);
     return book;
 }
@@ -142,11 +163,15 @@ static void write_plan(const struct arguments *given, struct bytes book)
 
 static void expect_two_places(const struct arguments *given)
 {
-    if (given->value[TRIALS] != NULL && is_standard(given->operands[1]) && is_standard(given->value[TRIALS]))
+    if (given->value[TRIALS] != NULL && is_standard(given->operands[1]) &&
+        is_standard(given->value[TRIALS]))
         fail("plan and trials cannot both go to standard output");
 }
 
-/* The words of the key given. What the library refuses of key and way is told, and the key is wiped: only its words are used. */
+/*
+ * The words of the key given. What the library refuses of key and way is reported, and the key is
+ * wiped: only its words are used.
+ */
 static struct bytes expanded_key(const struct arguments *given, uint64_t way)
 {
     struct bytes key = given_key(given);
@@ -154,16 +179,21 @@ static struct bytes expanded_key(const struct arguments *given, uint64_t way)
     uint32_t check = call_for_words(key, way, key_words);
     if (check == PLANBOOK_CHECK_KEY_LENGTH)
         refuse(check, "the key in %s is %s%s bytes long, not 16, 24 or 32", key_title(given),
-               key.len > KEY_FILE_LIMIT ? "more than " : "", grouped(key.len > KEY_FILE_LIMIT ? KEY_FILE_LIMIT : key.len));
+               key.len > KEY_FILE_LIMIT ? "more than " : "",
+               grouped(key.len > KEY_FILE_LIMIT ? KEY_FILE_LIMIT : key.len));
     if (check == PLANBOOK_CHECK_WAY)
         refuse(check, "--way %" PRIu64 ": the ways are 1, 2 and 3", way);
-    if (check != PLANBOOK_ACCEPTED) /* never: but nothing may be sealed under words that were not written */
+    if (check !=
+        PLANBOOK_ACCEPTED) /* never: but nothing may be sealed under words that were not written */
         refuse(check, "the key in %s: %s", key_title(given), planbook_check_sentence(check));
     release(&key);
     return key_words;
 }
 
-/* A call for a book under the key given; what the library refuses of the book is told by refuse_book. */
+/*
+ * A call for a book under the key given; what the library refuses of the book is reported by
+ * refuse_book.
+ */
 static struct bytes recode(const struct arguments *given, book_call *call, struct bytes book,
                            void refuse_book(const char *, struct bytes, uint32_t))
 {
@@ -178,7 +208,8 @@ static struct bytes recode(const struct arguments *given, book_call *call, struc
 }
 
 /* The same for a note, which is sealed and opened by one call. */
-static struct bytes crypt_note(const struct arguments *given, struct bytes counter, struct bytes note)
+static struct bytes crypt_note(const struct arguments *given, struct bytes counter,
+                               struct bytes note)
 {
     uint64_t way = given_way(given);
     struct bytes key_words = expanded_key(given, way);
@@ -201,7 +232,8 @@ void run_keygen(const struct arguments *given)
 {
     const char *text = given->value[BITS];
     uint64_t bits = text == NULL ? 8 * PLANBOOK_KEY128_BYTES : read_number("--bits", text);
-    if (bits != 8 * PLANBOOK_KEY128_BYTES && bits != 8 * PLANBOOK_KEY192_BYTES && bits != 8 * PLANBOOK_KEY256_BYTES)
+    if (bits != 8 * PLANBOOK_KEY128_BYTES && bits != 8 * PLANBOOK_KEY192_BYTES &&
+        bits != 8 * PLANBOOK_KEY256_BYTES)
         fail("--bits %" PRIu64 ": a key has 128, 192 or 256 bits", bits);
     expect_no_terminal(given->operands[0]);
     write_one(given->operands[0], draw_key((size_t)bits / 8), true, KEEP_KEY);
@@ -217,7 +249,7 @@ static size_t count_reserve(const struct sheet *sheet)
     return reserve;
 }
 
-/* Plots in reserve are told, since a spreadsheet may have made zeros of empty cells. */
+/* Plots in reserve are counted, since a spreadsheet may have made zeros of empty cells. */
 void run_check(const struct arguments *given)
 {
     struct sheet sheets[PLANBOOK_MAX_SHEETS];
@@ -251,7 +283,9 @@ void run_seal(const struct arguments *given)
         book = packed_plan(given, plan, ALWAYS_DRAWN);
         release(&plan);
     } else if (given->value[TRIALS] != NULL) {
-        fail("%s is not a plan (CSV), and --trials goes with a plan: a book has its trials in its contents", input_title(name));
+        fail("%s is not a plan (CSV), and --trials goes with a plan: a book has its trials in its "
+             "contents",
+             input_title(name));
     }
     struct bytes sealed = recode(given, planbook_encrypt_book, book, refuse_clear_book);
     if (!from_plan)
@@ -279,7 +313,10 @@ void run_open(const struct arguments *given)
     release(&book);
 }
 
-/* A book that says it is sealed is judged as one, any other as a clear one. With a key it must be a sealed one. */
+/*
+ * A book that says it is sealed is judged as one, any other as a clear one. With a key it must be a
+ * sealed one.
+ */
 void run_show(const struct arguments *given)
 {
     struct bytes book = read_book(given->operands[0]);
@@ -292,15 +329,19 @@ void run_show(const struct arguments *given)
     bool sealed = book.len > 0 && book.at[0] == PLANBOOK_SEALED;
     uint32_t check = sealed ? check_sealed_book(book) : check_clear_book(book);
     if (check != PLANBOOK_ACCEPTED)
-        (sealed ? refuse_sealed_book : refuse_clear_book)(input_title(given->operands[0]), book, check);
-    write_one(given->operands[1], (given->value[JSON] != NULL ? show_json : show_table)(book, with_key), !sealed, given_force(given));
+        (sealed ? refuse_sealed_book : refuse_clear_book)(input_title(given->operands[0]), book,
+                                                          check);
+    write_one(given->operands[1],
+              (given->value[JSON] != NULL ? show_json : show_table)(book, with_key), !sealed,
+              given_force(given));
     release(&book);
 }
 
 void run_labels(const struct arguments *given)
 {
     struct bytes book = sealed_book(given->operands[0]);
-    write_one(given->operands[1], (given->value[JSON] != NULL ? labels_json : labels_table)(book), false, given_force(given));
+    write_one(given->operands[1], (given->value[JSON] != NULL ? labels_json : labels_table)(book),
+              false, given_force(given));
     release(&book);
 }
 
@@ -314,30 +355,37 @@ static void read_label(const char *text, uint8_t label[PLANBOOK_RECORD_BYTES])
         len--;
     struct bytes digits = {(uint8_t *)text, len};
     if (!read_hex(digits, label, PLANBOOK_RECORD_BYTES))
-        fail("the label is not %d hexadecimal digits: %s", 2 * PLANBOOK_RECORD_BYTES, hex_fault(digits));
+        fail("the label is not %d hexadecimal digits: %s", 2 * PLANBOOK_RECORD_BYTES,
+             hex_fault(digits));
 }
 
 /* A label is the sealed record: found in the sealed book, at the same place in the opened one. */
-static void find_label(const struct arguments *given, const struct sheet *sheets, size_t n, size_t *sheet, size_t *place)
+static void find_label(const struct arguments *given, const struct sheet *sheets, size_t n,
+                       size_t *sheet, size_t *place)
 {
     uint8_t label[PLANBOOK_RECORD_BYTES];
     read_label(given->operands[1], label);
     for (*sheet = 0; *sheet < n; ++*sheet)
         for (*place = 0; *place < sheets[*sheet].count; ++*place)
-            if (memcmp(sheets[*sheet].records + PLANBOOK_RECORD_BYTES * *place, label, sizeof label) == 0)
+            if (memcmp(sheets[*sheet].records + PLANBOOK_RECORD_BYTES * *place, label,
+                       sizeof label) == 0)
                 return;
     refuse(PLANBOOK_ACCEPTED, "%s has no record with this label", input_title(given->operands[0]));
 }
 
-static void find_place(const struct arguments *given, const struct sheet *sheets, size_t n, size_t *sheet, size_t *place)
+static void find_place(const struct arguments *given, const struct sheet *sheets, size_t n,
+                       size_t *sheet, size_t *place)
 {
-    uint64_t trial = read_number("TRIAL", given->operands[1]), number = read_number("PLACE", given->operands[2]);
+    uint64_t trial = read_number("TRIAL", given->operands[1]),
+             number = read_number("PLACE", given->operands[2]);
     for (*sheet = 0; *sheet < n && sheets[*sheet].trial != trial;)
         ++*sheet;
     if (*sheet == n)
-        refuse(PLANBOOK_ACCEPTED, "%s has no trial %" PRIu64, input_title(given->operands[0]), trial);
+        refuse(PLANBOOK_ACCEPTED, "%s has no trial %" PRIu64, input_title(given->operands[0]),
+               trial);
     if (number >= sheets[*sheet].count)
-        refuse(PLANBOOK_ACCEPTED, "trial %" PRIu64 " of %s has the places 0 to %u, and not %" PRIu64, trial,
+        refuse(PLANBOOK_ACCEPTED,
+               "trial %" PRIu64 " of %s has the places 0 to %u, and not %" PRIu64, trial,
                input_title(given->operands[0]), (unsigned)sheets[*sheet].count - 1, number);
     *place = (size_t)number;
 }
@@ -352,7 +400,9 @@ void run_find(const struct arguments *given)
     struct bytes book = opened(given, sealed);
     release(&sealed);
     read_sheets(book, sheets);
-    write_one(NULL, (given->value[JSON] != NULL ? record_json : record_table)(&sheets[sheet], place), true, KEEP);
+    write_one(NULL,
+              (given->value[JSON] != NULL ? record_json : record_table)(&sheets[sheet], place),
+              true, KEEP);
     release(&book);
 }
 
@@ -373,7 +423,10 @@ void run_unpack(const struct arguments *given)
     release(&book);
 }
 
-/* A page tells of its sheet what the clear book does, so it is kept like one. It is text, and may go to a terminal. */
+/*
+ * A page says of its sheet what the clear book does, so it is kept like one. It is text, and may
+ * go to a terminal.
+ */
 void run_page(const struct arguments *given)
 {
     uint64_t sheet = given_sheet(given);
@@ -386,7 +439,9 @@ void run_page(const struct arguments *given)
     write_one(given->operands[1], page, true, given_force(given));
 }
 
-/* Whether the output is the text or the sealed note is not known here, so it is kept like the text. */
+/*
+ * Whether the output is the text or the sealed note is not known here, so it is kept like the text.
+ */
 void run_note(const struct arguments *given)
 {
     struct bytes counter = given_counter(given);

@@ -1,6 +1,6 @@
 /*
- * Loaded before the C library, this makes things go wrong that a test cannot time from outside. FAULT says what, one or
- * more of these with commas between them:
+ * Loaded before the C library, this makes things go wrong that a test cannot time from outside.
+ * FAULT says what, one or more of these with commas between them:
  *
  *   full          the disk is full after the first byte of a file
  *   signal:N      signal N comes while the file is written, and has only its temporary name
@@ -18,11 +18,10 @@
  *   mark          writing leaves 12 KiB of a5 a4 .. 96 on the stack, again and again
  *   early-mark    so does reading
  *   malloc-mark:N so does asking for N bytes of memory
- *   scan          at the very end, the memory is looked through for the bytes that SCAN names in hexadecimal, or for several such
- *                 with commas between them
- *   early-scan    the same while the file is written
- *   malloc-scan:N the same when N bytes of memory are asked for
- *   no-memory:N   there are no N bytes of memory
+ *   scan          at the very end, the memory is looked through for the bytes that SCAN names in
+ * hexadecimal, or for several such with commas between them early-scan    the same while the file
+ * is written malloc-scan:N the same when N bytes of memory are asked for no-memory:N   there are no
+ * N bytes of memory
  */
 #define _GNU_SOURCE
 #include <dlfcn.h>
@@ -36,7 +35,7 @@
 #include <ucontext.h>
 #include <unistd.h>
 
-/* What stands after the kind of fault, up to the comma; null where FAULT does not name it. */
+/* What is after the kind of fault, up to the comma; null where FAULT does not name it. */
 static const char *fault(const char *kind)
 {
     static char rest[4096];
@@ -135,19 +134,22 @@ int link(const char *from, const char *to)
     return fault("no-link") != NULL ? failed(EPERM) : linkat(AT_FDCWD, from, AT_FDCWD, to, 0);
 }
 
-int renameat2(int from_directory, const char *from, int to_directory, const char *to, unsigned flags)
+int renameat2(int from_directory, const char *from, int to_directory, const char *to,
+              unsigned flags)
 {
     static int (*real)(int, const char *, int, const char *, unsigned);
     if (real == NULL)
         *(void **)&real = dlsym(RTLD_NEXT, "renameat2");
-    return fault("no-noreplace") != NULL ? failed(EINVAL) : real(from_directory, from, to_directory, to, flags);
+    return fault("no-noreplace") != NULL ? failed(EINVAL)
+                                         : real(from_directory, from, to_directory, to, flags);
 }
 
 int rename(const char *from, const char *to)
 {
     static int calls;
     const char *nth = fault("no-rename:");
-    return nth != NULL && atoi(nth) == ++calls ? failed(EIO) : renameat(AT_FDCWD, from, AT_FDCWD, to);
+    return nth != NULL && atoi(nth) == ++calls ? failed(EIO)
+                                               : renameat(AT_FDCWD, from, AT_FDCWD, to);
 }
 
 int fchmod(int fd, mode_t mode)
@@ -198,7 +200,7 @@ static int is_at(const unsigned char *at, const char *hex, size_t len)
     return 1;
 }
 
-/* How often the bytes stand there that are named up to the comma. */
+/* How often the bytes are there that are named up to the comma. */
 static size_t count_in(const unsigned char *from, const unsigned char *to, const char *hex)
 {
     size_t len = strcspn(hex, ",") / 2, found = 0;
@@ -223,7 +225,11 @@ static void scan_here(void)
                 found += count_in(from, to, one);
             scanned += (size_t)((char *)to - (char *)from);
         }
-    fprintf(stderr, scanned < 65536 ? "nothing scanned\n" : found > 0 ? "left behind %zu times\n" : "nothing left behind\n", found);
+    fprintf(stderr,
+            scanned < 65536 ? "nothing scanned\n"
+            : found > 0     ? "left behind %zu times\n"
+                            : "nothing left behind\n",
+            found);
 }
 
 /* On a stack of its own, lest it overwrite what it looks for. */

@@ -1,15 +1,15 @@
 /*
- * Writes a random clear book and, from the same numbers, all that the command must make of it, into the current directory:
+ * Writes a random clear book and, from the same numbers, all that the command must make of it, into
+ * the current directory:
  *
  *   book                        the clear book
  *   plan.csv trials.csv         what unpack must give
- *   mixed.csv mixed-trials.csv  the same lines as another spreadsheet might write them, the plan's mixed and those of the
- *                               trials reversed: pack must give the book all the same
- *   key sealed                  a random key, and the book sealed by the reference in tests/
- *   show.txt show.json          what show must print of the clear book
- *   head.txt head.json          and of the sealed one
- *   labels.txt labels.json      what labels must print
- *   find                        one line for find: a label, then trial, place, entry, replicate, and row and column or reserve
+ *   mixed.csv mixed-trials.csv  the same lines as another spreadsheet might write them, the plan's
+ * mixed and those of the trials reversed: pack must give the book all the same key sealed a random
+ * key, and the book sealed by the reference in tests/ show.txt show.json          what show must
+ * print of the clear book head.txt head.json          and of the sealed one labels.txt labels.json
+ * what labels must print find                        one line for find: a label, then trial, place,
+ * entry, replicate, and row and column or reserve
  *
  * usage: random_book SEED. It shares no code with the command.
  */
@@ -30,7 +30,7 @@ struct plot {
 static struct {
     uint32_t trial;
     unsigned count;
-    unsigned replicates; /* as it stands in the book */
+    unsigned replicates; /* as written in the book */
     unsigned char start[16];
     struct plot plots[MAX_COUNT];
 } sheets[MAX_SHEETS];
@@ -65,7 +65,7 @@ static uint32_t number(uint32_t least, uint32_t most)
     }
 }
 
-/* The number that holds. */
+/* The number that is in force. */
 static unsigned replicates_of(unsigned s)
 {
     return sheets[s].replicates == 0 ? 4 : sheets[s].replicates;
@@ -90,9 +90,11 @@ static void draw_book(void)
     for (sheet_count = 0; sheet_count < wanted; sheet_count++) {
         unsigned left = wanted - sheet_count - 1;
         unsigned most = (room - 24 - 40 * left) / 16;
-        unsigned count = below(4) == 0 ? number(1, most < MAX_COUNT ? most : MAX_COUNT) : number(1, most < 20 ? most : 20);
+        unsigned count = below(4) == 0 ? number(1, most < MAX_COUNT ? most : MAX_COUNT)
+                                       : number(1, most < 20 ? most : 20);
         room -= 24 + 16 * count;
-        trial = number(trial + 1, left == 0 ? UINT32_MAX : trial + (UINT32_MAX - trial - left) / 2 + 1);
+        trial =
+            number(trial + 1, left == 0 ? UINT32_MAX : trial + (UINT32_MAX - trial - left) / 2 + 1);
         sheets[sheet_count].trial = trial;
         sheets[sheet_count].count = count;
         sheets[sheet_count].replicates = number(0, 8);
@@ -178,7 +180,8 @@ static void write_sealed_book(void)
 static void write_line(FILE *plan, unsigned s, unsigned i)
 {
     const struct plot *p = &sheets[s].plots[i];
-    fprintf(plan, "%" PRIu32 ",%" PRIu32 ",%u,%u,%u\n", sheets[s].trial, p->entry, p->replicate, p->row, p->column);
+    fprintf(plan, "%" PRIu32 ",%" PRIu32 ",%u,%u,%u\n", sheets[s].trial, p->entry, p->replicate,
+            p->row, p->column);
 }
 
 static void write_hex(FILE *to, const unsigned char *at)
@@ -203,7 +206,10 @@ static void write_csv(void)
     finish(trials);
 }
 
-/* Another spreadsheet's ways: separator, quotes, order of the columns, a column more, capitals, line ends. */
+/*
+ * Another spreadsheet's ways: separator, quotes, order of the columns, a column more, capitals,
+ * line ends.
+ */
 
 static char separator;
 static const char *line_end;
@@ -233,7 +239,8 @@ static void write_mixed_fields(FILE *to, char texts[6][64])
 
 static void write_mixed_line(FILE *to, unsigned s, unsigned i)
 {
-    static const char *const notes[] = {"", "a note", "a; b, c\td", "with \"\"quotes\"\"", "two\nlines", "41"};
+    static const char *const notes[] = {"",           "a note", "a; b, c\td", "with \"\"quotes\"\"",
+                                        "two\nlines", "41"};
     const struct plot *p = &sheets[s].plots[i];
     char texts[6][64];
     sprintf(texts[0], "%" PRIu32, sheets[s].trial);
@@ -275,14 +282,18 @@ static void write_mixed_csv(void)
     write_mixed_trials();
 }
 
-/* Tables. Numbers stand right under their names; the word reserve ends where the number of the column would. */
+/*
+ * Tables. Numbers are right under their names; the word reserve ends where the number of the
+ * column would.
+ */
 
 static void write_head(FILE *to, const char *kind)
 {
     unsigned records = 0;
     for (unsigned s = 0; s < sheet_count; s++)
         records += sheets[s].count;
-    fprintf(to, "%s plan book: sheets %u, records %u, bytes %zu\n", kind, sheet_count, records, book_len);
+    fprintf(to, "%s plan book: sheets %u, records %u, bytes %zu\n", kind, sheet_count, records,
+            book_len);
     if (sheet_count > 0)
         fputs("\n     TRIAL RECORDS REPLICATES            START BLOCK\n", to);
     for (unsigned s = 0; s < sheet_count; s++) {
@@ -304,7 +315,8 @@ static void write_tables(void)
     for (unsigned s = 0; s < sheet_count; s++)
         for (unsigned i = 0; i < sheets[s].count; i++, record += 16) {
             const struct plot *p = &sheets[s].plots[i];
-            fprintf(show, "%10" PRIu32 "%6u%11" PRIu32 "%10u", sheets[s].trial, i, p->entry, p->replicate);
+            fprintf(show, "%10" PRIu32 "%6u%11" PRIu32 "%10u", sheets[s].trial, i, p->entry,
+                    p->replicate);
             if (p->row == 0)
                 fputs("      reserve\n", show);
             else
@@ -322,11 +334,13 @@ static void write_tables(void)
 
 static void write_json_head(FILE *to, const char *kind)
 {
-    fprintf(to, "{\"kind\": \"%s\", \"opened\": false, \"bytes\": %zu,\n \"sheets\": [", kind, book_len);
+    fprintf(to, "{\"kind\": \"%s\", \"opened\": false, \"bytes\": %zu,\n \"sheets\": [", kind,
+            book_len);
     for (unsigned s = 0; s < sheet_count; s++) {
-        fprintf(to, "%s\n  {\"trial\": %" PRIu32 ", \"count\": %u", s > 0 ? "," : "", sheets[s].trial, sheets[s].count);
-        fprintf(to, ", \"replicates\": %u, \"replicates_by_default\": %s, \"start_block\": \"", replicates_of(s),
-                sheets[s].replicates == 0 ? "true" : "false");
+        fprintf(to, "%s\n  {\"trial\": %" PRIu32 ", \"count\": %u", s > 0 ? "," : "",
+                sheets[s].trial, sheets[s].count);
+        fprintf(to, ", \"replicates\": %u, \"replicates_by_default\": %s, \"start_block\": \"",
+                replicates_of(s), sheets[s].replicates == 0 ? "true" : "false");
         write_hex(to, sheets[s].start);
         fputs("\"}", to);
     }
@@ -345,10 +359,12 @@ static void write_json(void)
         for (unsigned i = 0; i < sheets[s].count; i++, record += 16) {
             const struct plot *p = &sheets[s].plots[i];
             const char *comma = s + i > 0 ? "," : "";
-            fprintf(show, "%s\n  {\"trial\": %" PRIu32 ", \"place\": %u, \"entry\": %" PRIu32, comma, sheets[s].trial, i, p->entry);
-            fprintf(show, ", \"replicate\": %u, \"row\": %u, \"column\": %u, \"reserve\": %s}", p->replicate, p->row, p->column,
-                    p->row == 0 ? "true" : "false");
-            fprintf(labels, "%s\n {\"trial\": %" PRIu32 ", \"place\": %u, \"label\": \"", comma, sheets[s].trial, i);
+            fprintf(show, "%s\n  {\"trial\": %" PRIu32 ", \"place\": %u, \"entry\": %" PRIu32,
+                    comma, sheets[s].trial, i, p->entry);
+            fprintf(show, ", \"replicate\": %u, \"row\": %u, \"column\": %u, \"reserve\": %s}",
+                    p->replicate, p->row, p->column, p->row == 0 ? "true" : "false");
+            fprintf(labels, "%s\n {\"trial\": %" PRIu32 ", \"place\": %u, \"label\": \"", comma,
+                    sheets[s].trial, i);
             write_hex(labels, record);
             fputs("\"}", labels);
         }

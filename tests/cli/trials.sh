@@ -23,7 +23,7 @@ test_trials() {
 planbook: damaged-plan.csv, line 3: trial 42 has no line in trials.csv" pack --trials trials.csv damaged-plan.csv x
     plan_of
     expect_nothing x 2 "trials.csv, line 2: trial 41 has no line in damaged-plan.csv" pack --trials trials.csv damaged-plan.csv x
-    bad_trials 2 "damaged.csv, line 3: trial 41 stands in line 2 already" $both 41,$start 41,$cipher128
+    bad_trials 2 "damaged.csv, line 3: trial 41 is in line 2 already" $both 41,$start 41,$cipher128
     bad_trials 2 "damaged.csv, line 2: trial 40 has no line in plan.csv" $both 40,$start 41,$cipher128
     bad_trials 2 "damaged.csv, line 3: trial 43 has no line in plan.csv" $both 41,$start 43,$cipher128
     bad_trials 2 "plan.csv, line 2: trial 41 has no line in damaged.csv" $both

@@ -1,4 +1,7 @@
-/* Writes the bytes that its arguments name in hexadecimal: the tests' own way to make books and keys. */
+/*
+ * Writes the bytes that its arguments name in hexadecimal: the tests' own way to make books and
+ * keys.
+ */
 #include <stdio.h>
 
 int main(int argc, char **argv)
