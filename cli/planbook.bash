@@ -1,7 +1,9 @@
-# Completion for bash of the command planbook. It goes to share/bash-completion/completions/planbook.
+# Completion for bash of the command planbook. It goes to
+# share/bash-completion/completions/planbook.
 
 _planbook() {
-    local word=${COMP_WORDS[COMP_CWORD]} before=${COMP_WORDS[COMP_CWORD - 1]} verb=${COMP_WORDS[1]} options=
+    local word=${COMP_WORDS[COMP_CWORD]} before=${COMP_WORDS[COMP_CWORD - 1]} \
+        verb=${COMP_WORDS[1]} options=
     COMPREPLY=()
     if [ "$COMP_CWORD" -eq 1 ] || { [ "$COMP_CWORD" -eq 2 ] && [ "$verb" = help ]; }; then
         local verbs='keygen check seal open show labels find pack unpack page note'

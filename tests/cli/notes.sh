@@ -1,3 +1,6 @@
+# shellcheck shell=sh disable=SC2086,SC2154
+# (command lines are split into arguments; samples and helpers are those of tests/cli/run)
+#
 # Part of tests/cli/run: notes, and the counter blocks that they are sealed from.
 
 # note_gives KEY COUNTER INPUT WANTED: sealing and opening are the same.
@@ -39,14 +42,16 @@ test_notes() {
     expect 0 "" note --force --key - --counter $counter note192 x
     same x note
     rm -f x
-    { head -c 20 note; sleep 0.2; tail -c +21 note; } | "$planbook" note --key key128 --counter $counter 2>err |
+    { head -c 20 note; sleep 0.2; tail -c +21 note; } | "$planbook" note --key key128 --counter \
+        $counter 2>err |
         "$planbook" note --key key128 --counter $counter >out 2>>err
     judge "a note in two pieces, sealed and opened in a pipe" 0 "" $?
     same out note
     # names with spaces, from another folder
     mkdir "a folder"
     cp note "a folder/the note"
-    (cd "a folder" && "$planbook" note --key ../key128 --counter $counter "the note" "../a folder/the sealed note") 2>err
+    (cd "a folder" && "$planbook" note --key ../key128 --counter $counter "the note" \
+        "../a folder/the sealed note") 2>err
     judge "a note whose name has a space, from another folder" 0 "" $?
     same "a folder/the sealed note" note128
     rm -rf "a folder"
@@ -54,8 +59,8 @@ test_notes() {
 
 # The last four bytes count, and a wrong key or counter block is not noticed.
 test_counters() {
-    # a note of zeros becomes the encrypted counter blocks: the ciphertext of the CLEFIA specification is the first from $counter, and
-    # the second from the one before
+    # a note of zeros becomes the encrypted counter blocks: the ciphertext of the CLEFIA
+    # specification is the first from $counter, and the second from the one before
     for bits in 128 192 256; do
         eval "unhex \$cipher$bits >wanted"
         head -c 16 /dev/zero >zeros
@@ -66,8 +71,10 @@ test_counters() {
         same second wanted
         rm -f x
     done
-    # after ffffffff comes 00000000, and the first twelve bytes stay; worked out as the samples of tests/cli/run were
-    unhex 0121ea06b5029421305586a74c2100a41c041f961956e9fddeadb994cabf506d7124f05d5e8f57fc19356e834a5fe5d6e69dc5365a >wanted
+    # after ffffffff comes 00000000, and the first twelve bytes stay; worked out as the samples of
+    # tests/cli/run were
+    unhex 0121ea06b5029421305586a74c2100a41c041f961956e9fddeadb994cabf506d \
+        7124f05d5e8f57fc19356e834a5fe5d6e69dc5365a >wanted
     note_gives key192 000102030405060708090a0bfffffffe note wanted
     tail -c 21 wanted >rest
     tail -c 21 note >rest_of_note
@@ -76,7 +83,8 @@ test_counters() {
     note_gives key128 000102030405060708090A0B0C0D0E0F note note128
     echo $counter >kept
     note_gives key128 "$(cat kept)" note note128
-    # the wrong key gives the exclusive or of both ciphertexts, and a wrong counter block other bytes, both without a word
+    # the wrong key gives the exclusive or of both ciphertexts, and a wrong counter block other
+    # bytes, both without a word
     unhex $cipher128 >sealed_zeros
     unhex 3c63dd990476270971f424d1b8751550 >wanted
     note_gives key192 $counter sealed_zeros wanted
@@ -109,10 +117,13 @@ test_bad_counters() {
         bad_counter 2 "$digits: there are ${#bad}" "$bad"
     done
     # another length is the library's to refuse
+    length="bytes long, not 16, which are 32 hexadecimal digits [check 3]"
     for bad in "" 00 ${counter%??} ${counter}00 $counter$counter; do
-        bad_counter 1 "the counter block is $((${#bad} / 2)) bytes long, not 16, which are 32 hexadecimal digits [check 3]" "$bad"
+        bad_counter 1 "the counter block is $((${#bad} / 2)) $length" "$bad"
     done
-    bad_counter 1 "the counter block is 1,000 bytes long, not 16, which are 32 hexadecimal digits [check 3]" "$(printf %02000d 0)"
+    bad_counter 1 \
+        "the counter block is 1,000 bytes long, not 16, which are 32 hexadecimal digits [check 3]" \
+        "$(printf %02000d 0)"
     # what is wrong with the arguments is said before anything is read
     cp note in
     { "$planbook" note --key key128 --counter 0x00 - x 2>err; echo $? >status; cat >rest; } <in
@@ -142,21 +153,30 @@ test_note_lengths() {
     # one byte more, and no end
     head -c 16385 /dev/zero >long
     for name in long /dev/zero; do
-        expect_exactly 1 "planbook: $name is longer than a note can be, which is 16,384 bytes [check 12]" note --key key128 --counter $counter $name x
+        expect_exactly 1 \
+            "planbook: $name is longer than a note can be, which is 16,384 bytes [check 12]" note \
+            --key key128 --counter $counter $name x
         holds "nothing is made of $name" [ ! -e x ]
-        expect_nothing x 1 "$name is longer than a note can be" note --key key128 --counter $counter $name
+        expect_nothing x 1 "$name is longer than a note can be" note --key key128 --counter \
+            $counter $name
     done
     head -c 20000 /dev/zero >long
-    { "$planbook" note --key key128 --counter $counter - x 2>err; echo $? >status; cat >rest; } <long
-    judge "a note of 20,000 bytes" 1 "standard input is longer than a note can be, which is 16,384 bytes [check 12]" "$(cat status)"
+    { "$planbook" note --key key128 --counter $counter - x 2>err; echo $? >status; cat >rest; } \
+        <long
+    judge "a note of 20,000 bytes" 1 \
+        "standard input is longer than a note can be, which is 16,384 bytes [check 12]" \
+        "$(cat status)"
     holds "nothing is made of it" [ ! -e x ]
     holds "it is read up to the first byte too many" [ "$(wc -c <rest)" -eq 3615 ]
     # of several checks that fail the first is told
     head -c 15 /dev/zero >short
     chmod 600 short
-    expect_nothing x 1 "the key in short is 15 bytes long, not 16, 24 or 32 [check 1]" note --key short --counter 00 --way 4 long x
-    expect_nothing x 1 "--way 4: the ways are 1, 2 and 3 [check 2]" note --key key128 --counter 00 --way 4 long x
-    expect_nothing x 1 "the counter block is 1 bytes long, not 16" note --key key128 --counter 00 long x
+    expect_nothing x 1 "the key in short is 15 bytes long, not 16, 24 or 32 [check 1]" note --key \
+        short --counter 00 --way 4 long x
+    expect_nothing x 1 "--way 4: the ways are 1, 2 and 3 [check 2]" note --key key128 --counter 00 \
+        --way 4 long x
+    expect_nothing x 1 "the counter block is 1 bytes long, not 16" note --key key128 --counter 00 \
+        long x
     rm -f long short
 }
 
@@ -164,7 +184,8 @@ test_note_files() {
     crypt="note --key key128 --counter $counter"
     # an existing file is kept without --force, and with it too where the note is refused
     cp precious old
-    expect_exactly 2 "planbook: old exists: name another output, or replace it with --force" $crypt note old
+    expect_exactly 2 "planbook: old exists: name another output, or replace it with --force" \
+        $crypt note old
     expect 1 "[check 3]" note --force --key key128 --counter 00 note old
     expect 1 "[check 12]" $crypt --force /dev/zero old
     same old precious
@@ -177,7 +198,8 @@ test_note_files() {
     mode_is 600 c
     same c note
     chmod 644 old
-    expect_exactly 0 "planbook: warning: old keeps its mode 644, so others may read it" $crypt --force note128 old
+    expect_exactly 0 "planbook: warning: old keeps its mode 644, so others may read it" $crypt \
+        --force note128 old
     mode_is 644 old
     same old note
     rm -f old s c
@@ -185,7 +207,8 @@ test_note_files() {
     expect_nothing x 2 "cannot open missing: No such file" $crypt missing x
     expect_nothing x 2 "cannot open : No such file" $crypt "" x
     expect_nothing x 2 "cannot read folder: Is a directory" $crypt folder x
-    expect_nothing x 2 "cannot open missing: No such file" note --key missing --counter $counter note x
+    expect_nothing x 2 "cannot open missing: No such file" note --key missing --counter $counter \
+        note x
     with_fault full $crypt note x
     judge "disk full in the middle of a note" 2 "cannot write x: No space left on device" $?
     holds "no part of a note" [ ! -e x ]
@@ -199,7 +222,8 @@ test_note_example() {
     "$planbook" keygen notes.key
     cp ../note note.txt
     sed -n '/^counter=/,/^\.Ed/p' "$here/cli/planbook.1" | sed -e '/^\.Ed/d' -e 's/\\e/\\/g' >lines
-    holds "the manual page shows how a note is sealed and opened" [ "$(grep -c '^planbook note ' lines)" -eq 2 ]
+    holds "the manual page shows how a note is sealed and opened" [ \
+        "$(grep -c '^planbook note ' lines)" -eq 2 ]
     for turn in first second; do
         PATH=$PWD:$PATH sh -e lines 2>../err
         judge "the example of the manual page, $turn time" 0 "" $?

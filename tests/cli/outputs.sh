@@ -1,3 +1,6 @@
+# shellcheck shell=sh disable=SC2086,SC2154
+# (command lines are split into arguments; samples and helpers are those of tests/cli/run)
+#
 # Part of tests/cli/run: outputs appear whole or not at all, and nothing is lost.
 
 test_existing_outputs() {
@@ -27,7 +30,8 @@ test_existing_outputs() {
     ln -s precious link
     expect 2 "link exists and is not a regular file" seal --force --key key128 clear link
     same precious link
-    mkfifo pipe # stands for devices as well: a mistake here must not replace one when root runs the test
+    # a pipe, for devices as well: a mistake here must not replace one when root runs the test
+    mkfifo pipe
     for name in folder folder/ pipe; do
         expect 2 "$name exists and is not a regular file" seal --force --key key128 clear $name
     done
@@ -40,7 +44,8 @@ test_existing_outputs() {
     for name in both ./both here/both "$PWD/both"; do
         expect_nothing both 2 "both and $name $one" unpack --trials "$name" clear both
         expect_nothing both 2 "both and $name $one" unpack --force --trials "$name" clear both
-        expect_nothing both.csv 2 "both.csv and $name.csv $one" open --key key128 --trials "$name.csv" sealed128 both.csv
+        expect_nothing both.csv 2 "both.csv and $name.csv $one" open --key key128 --trials \
+            "$name.csv" sealed128 both.csv
         cp precious both
         expect 2 "both and $name $one" unpack --force --trials "$name" clear both
         same both precious
@@ -89,7 +94,8 @@ test_modes() {
     done
     cp precious p
     chmod 644 p
-    expect_exactly 0 "planbook: warning: p keeps its mode 644, so others may read it" open --force --key key128 sealed128 p
+    expect_exactly 0 "planbook: warning: p keeps its mode 644, so others may read it" open --force \
+        --key key128 sealed128 p
     mode_is 644 p
     same p clear
     chmod 600 p
@@ -97,7 +103,8 @@ test_modes() {
     if [ "$(id -u)" -eq 0 ]; then
         chmod 600 s
         chown 65534:65534 s
-        for line in "seal --force --key key128 clear" "note --force --key key128 --counter $counter note"; do
+        for line in "seal --force --key key128 clear" \
+            "note --force --key key128 --counter $counter note"; do
             expect 0 "" $line s
             holds "planbook $line: owner and group stay" [ "$(stat -c %u:%g s)" = 65534:65534 ]
         done
@@ -144,7 +151,8 @@ test_no_links() {
     judge "a name that is reserved and cannot be used" 2 "cannot make x: Input/output error" $?
     holds "the reserved name is given up" [ ! -e x ]
     with_fault directory:5 seal --key key128 clear folder/x
-    judge "a directory that cannot be synchronised" 2 "folder/x is made, but its directory cannot be synchronised: Input/output error" $?
+    judge "a directory that cannot be synchronised" 2 \
+        "folder/x is made, but its directory cannot be synchronised: Input/output error" $?
     same folder/x sealed128
     with_fault directory:22 seal --force --key key128 clear folder/x
     judge "a file system that cannot synchronise directories" 0 "" $?
@@ -152,11 +160,15 @@ test_no_links() {
 }
 
 test_full_disk() {
-    for line in "seal --key key128 clear" "open --key key128 sealed128" "show clear" "labels sealed128" \
-        "pack --trials trials.csv plan.csv" "unpack --trials x clear" "unpack clear" "find --key key128 sealed128 41 0" \
-        "check plan.csv" "keygen -" "page clear" "note --key key128 --counter $counter note" "--help" "help seal" "--version"; do
+    for line in "seal --key key128 clear" "open --key key128 sealed128" "show clear" \
+        "labels sealed128" \
+        "pack --trials trials.csv plan.csv" "unpack --trials x clear" "unpack clear" \
+        "find --key key128 sealed128 41 0" \
+        "check plan.csv" "keygen -" "page clear" "note --key key128 --counter $counter note" \
+        "--help" "help seal" "--version"; do
         "$planbook" $line >/dev/full 2>err
-        judge "planbook $line, full disk" 2 "cannot write standard output: No space left on device" $?
+        judge "planbook $line, full disk" 2 \
+            "cannot write standard output: No space left on device" $?
         "$planbook" $line >&- 2>err
         judge "planbook $line, standard output closed" 2 "cannot write standard output" $?
     done
@@ -222,7 +234,8 @@ test_streams() {
     judge "a book in two pieces" 0 "" $?
     same out sealed128
     { cat key256; sleep 0.2; echo; } | "$planbook" seal --key - clear x 2>err
-    judge "a key and a byte too much later" 1 "the key in standard input is 33 bytes long, not 16, 24 or 32 [check 1]" $?
+    judge "a key and a byte too much later" 1 \
+        "the key in standard input is 33 bytes long, not 16, 24 or 32 [check 1]" $?
     "$planbook" labels sealed128 2>err | true
     judge "a reader that leaves early" 0 "" 0
 }
@@ -254,7 +267,8 @@ test_permissions() {
     chmod 0 unreadable
     for line in show page "note --key key128 --counter $counter"; do
         $as_other ./other $line unreadable 2>err
-        judge "planbook $line: an input that may not be read" 2 "cannot open unreadable: Permission denied" $?
+        judge "planbook $line: an input that may not be read" 2 \
+            "cannot open unreadable: Permission denied" $?
     done
     $as_other ./other seal --key unreadable clear 2>err >out
     judge "a key that may not be read" 2 "cannot open unreadable: Permission denied" $?
@@ -266,10 +280,13 @@ test_terminal() {
         skip "terminals: no usable script(1)"
         return
     fi
-    for line in "seal --key key128 clear" "open --key key128 sealed128 -" "pack plan.csv" "keygen -" \
-        "note --key key128 --counter $counter note" "note --key key128 --counter $counter note128 -"; do
+    for line in "seal --key key128 clear" "open --key key128 sealed128 -" "pack plan.csv" \
+        "keygen -" \
+        "note --key key128 --counter $counter note" \
+        "note --key key128 --counter $counter note128 -"; do
         script -qec "'$planbook' $line" /dev/null >err 2>&1 </dev/null
-        judge "planbook $line, to a terminal" 2 "books, keys and notes may be any bytes, and do not go to a terminal" $?
+        judge "planbook $line, to a terminal" 2 \
+            "books, keys and notes may be any bytes, and do not go to a terminal" $?
         holds "planbook $line: only the message" [ "$(wc -l <err)" -eq 1 ]
     done
     script -qec "'$planbook' labels sealed128" /dev/null >err 2>&1 </dev/null

@@ -378,7 +378,7 @@ static void write_json(void)
 
 static void write_find(void)
 {
-    FILE *to = create("find");
+    FILE *to = create("find.txt");
     if (sheet_count > 0) {
         unsigned s = below(sheet_count), i = below(sheets[s].count), before = i;
         for (unsigned t = 0; t < s; t++)

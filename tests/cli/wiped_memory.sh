@@ -1,22 +1,29 @@
-# Part of tests/cli/run: no key, words of a key, clear record, line of a plan or a page, or text of a note is left in memory when the
-# command ends.
+# shellcheck shell=sh disable=SC2034,SC2086,SC2154
+# (eval reads the round keys; command lines are split into arguments; samples and helpers are those
+# of tests/cli/run)
 #
-# tests/cli/faults.c looks through all writable memory at the very end. That it can find something is seen in tests/cli/bugs,
-# where commands that do not wipe are caught by it.
+# Part of tests/cli/run: no key, words of a key, clear record, line of a plan or a page, or text of
+# a note is left in memory when the command ends.
+#
+# tests/cli/faults.c looks through all writable memory at the very end. That it can find something
+# is seen in tests/cli/bugs, where commands that do not wipe are caught by it.
 
-# Replicate, row and column of the sample record as the command holds them in numbers; the first two and the last two round keys
-# of each key as the CLEFIA specification prints them, which are words of the expanded key; the sample's line of a plan as text.
+# Replicate, row and column of the sample record as the command holds them in numbers; the first two
+# and the last two round keys of each key as the CLEFIA specification prints them, which are words
+# of the expanded key; the sample's line of a plan as text.
 numbers=020000000c00000003000000
 round_keys128="f3e6cef98df75e38 b19d05545142f434"
 round_keys192="4d3bfd1b7a1f5dfa 6288bc72c0ad856b"
 round_keys256="58f0202915413cd0 33e01cb980251e1c"
 line_text=34312c372c322c31322c33 # 41,7,2,12,3
-row_text=2020202020202020203720202020202020202032202020203132 # the row of show from the entry's column on
+# the row of show from the entry's column on
+row_text=2020202020202020203720202020202020202032202020203132
 page_text=34312020202020202020202037203220203132202020330a # the page's line from the trial on
 
 hex_of() { printf %s "$1" | od -An -v -tx1 | tr -d ' \n'; }
 
-# words_of BITS: what to look for of a key's words: as they are lent, and in the order of bytes that the processor has.
+# words_of BITS: what to look for of a key's words: as they are lent, and in the order of bytes that
+# the processor has.
 words_of() {
     eval "set -- \$round_keys$1"
     echo "$1,$2,$(echo "$1,$2" | sed 's/\(..\)\(..\)\(..\)\(..\)/\4\3\2\1/g')"
@@ -28,28 +35,33 @@ nothing_left() {
     wanted=$2
     export SCAN="$3"
     shift 3
-    export LD_BIND_NOW=1 # the search for functions at their first call would overwrite parts of the stack
+    # the search for functions at their first call would overwrite parts of the stack
+    export LD_BIND_NOW=1
     with_fault "${when:-scan},count" "$@"
     judge "$what after planbook $*" "$wanted" "nothing left behind" $?
-    ! grep -q '^left behind' "$work/err" || bad "$what after planbook $*: in one of several searches"
+    ! grep -q '^left behind' "$work/err" || bad \
+        "$what after planbook $*: in one of several searches"
     unset SCAN LD_BIND_NOW
     rm -f x y x.csv
 }
 
-test_leftovers() {
-    for verb in "seal --key key128 clear" "open --key key128 sealed128" "show --key key128 sealed128" "seal --key key128 plan.csv" \
+test_wiped_memory() {
+    for verb in "seal --key key128 clear" "open --key key128 sealed128" \
+        "show --key key128 sealed128" "seal --key key128 plan.csv" \
         "open --csv --key key128 sealed128" "find --key key128 sealed128 41 0"; do
         nothing_left "the key" 0 $key128 $verb
         nothing_left "the clear record" 0 $record $verb
         nothing_left "the clear record's numbers" 0 $numbers $verb
     done
     for bits in 128 192 256; do
-        for verb in "seal --key key$bits clear" "open --key key$bits sealed$bits" "show --key key$bits sealed$bits" "seal --key key$bits plan.csv" \
+        for verb in "seal --key key$bits clear" "open --key key$bits sealed$bits" \
+            "show --key key$bits sealed$bits" "seal --key key$bits plan.csv" \
             "open --csv --key-hex hex$bits sealed$bits" "find --key key$bits sealed$bits 41 0"; do
             nothing_left "the key's words" 0 "$(words_of $bits)" $verb
         done
     done
-    for verb in "pack plan.csv x" "unpack --trials y clear x" "unpack clear" "seal --key key128 plan.csv x" "check plan.csv" \
+    for verb in "pack plan.csv x" "unpack --trials y clear x" "unpack clear" \
+        "seal --key key128 plan.csv x" "check plan.csv" \
         "open --key key128 sealed128 x.csv"; do
         nothing_left "the plan's line" 0 $line_text $verb
         nothing_left "the clear record" 0 $record $verb
@@ -68,8 +80,10 @@ test_leftovers() {
     yes "$note_text" | head -c 16384 >long
     "$planbook" note --key key128 --counter $counter long long128
     for name in long long128; do
-        nothing_left "the key's words" 0 "$(words_of 128)" note --key key128 --counter $counter $name
-        nothing_left "the text of the note" 0 "$(hex_of "$note_text")" note --key key128 --counter $counter $name x
+        nothing_left "the key's words" 0 "$(words_of 128)" note --key key128 --counter $counter \
+            $name
+        nothing_left "the text of the note" 0 "$(hex_of "$note_text")" note --key key128 --counter \
+            $counter $name x
     done
     # whatever else was on the stack
     mark=a5a4a3a2a1a09f9e9d9c9b9a99989796
@@ -77,8 +91,8 @@ test_leftovers() {
     for verb in "show clear" "open --key key128 sealed128 x"; do
         nothing_left "a mark on the stack" 0 $mark $verb
     done
-    # a call's stack is wiped at once, with what was left there before it: by reading the book, or by asking for the memory of the
-    # output, which has 44 bytes for a book and 53 for the note
+    # a call's stack is wiped at once, with what was left there before it: by reading the book, or
+    # by asking for the memory of the output, which has 44 bytes for a book and 53 for the note
     when=early-scan,early-mark
     nothing_left "a mark on the stack, while the output is written," 0 $mark page clear x
     when=early-scan,malloc-mark:44
@@ -86,16 +100,20 @@ test_leftovers() {
         nothing_left "a mark on the stack, while the output is written," 0 $mark $verb
     done
     when=early-scan,malloc-mark:53
-    nothing_left "a mark on the stack, while the output is written," 0 $mark note --key key128 --counter $counter note x
-    # the key is gone as soon as its words are there, which is before the output's memory is asked for; the words of key128 begin with it
+    nothing_left "a mark on the stack, while the output is written," 0 $mark note --key key128 \
+        --counter $counter note x
+    # the key is gone as soon as its words are there, which is before the output's memory is asked
+    # for; the words of key128 begin with it
     for bits in 192 256; do
         eval "key=\$key$bits"
         when=malloc-scan:44
-        for verb in "seal --key key$bits clear x" "open --key key$bits sealed$bits x" "open --key-hex hex$bits sealed$bits x"; do
+        for verb in "seal --key key$bits clear x" "open --key key$bits sealed$bits x" \
+            "open --key-hex hex$bits sealed$bits x"; do
             nothing_left "the key, before a book is sealed or opened," 0 $key $verb
         done
         when=malloc-scan:53
-        nothing_left "the key, before a note is sealed," 0 $key note --key key$bits --counter $counter note x
+        nothing_left "the key, before a note is sealed," 0 $key note --key key$bits --counter \
+            $counter note x
     done
     when=malloc-scan:44,early-mark
     nothing_left "a mark on the stack, before the book is sealed," 0 $mark seal --key key128 clear x
@@ -103,13 +121,15 @@ test_leftovers() {
     when=early-scan
     for bits in 128 192 256; do
         eval "key=\$key$bits"
-        for verb in "seal --key key$bits clear x" "seal --key key$bits plan.csv x" "open --key key$bits sealed$bits x" \
+        for verb in "seal --key key$bits clear x" "seal --key key$bits plan.csv x" \
+            "open --key key$bits sealed$bits x" \
             "show --key key$bits sealed$bits x" "note --key key$bits --counter $counter note x"; do
             nothing_left "the key, while the output is written," 0 $key $verb
             nothing_left "the key's words, while the output is written," 0 "$(words_of $bits)" $verb
         done
     done
-    nothing_left "the text, while the sealed note is written," 0 "$(hex_of "$note_text")" note --key key128 --counter $counter long x
+    nothing_left "the text, while the sealed note is written," 0 "$(hex_of "$note_text")" note \
+        --key key128 --counter $counter long x
     nothing_left "the clear record, while the page is written," 0 $record page clear x
     when=scan
     # the same where the command ends early
@@ -127,9 +147,11 @@ test_leftovers() {
     nothing_left "the plan's line" 2 $line_text seal --key key128 damaged.csv x
     nothing_left "the clear record's numbers" 2 $numbers check damaged.csv
     nothing_left "the key" 1 $key128 note --key key128 --counter $counter --way 4 note x
-    nothing_left "the text of the note" 2 "$(hex_of "$note_text")" note --key key128 --counter $counter long128 missing/x
+    nothing_left "the text of the note" 2 "$(hex_of "$note_text")" note --key key128 --counter \
+        $counter long128 missing/x
     echo >>long
-    nothing_left "the text of the note" 1 "$(hex_of "$note_text")" note --key key128 --counter $counter long x
+    nothing_left "the text of the note" 1 "$(hex_of "$note_text")" note --key key128 --counter \
+        $counter long x
     # and where it ends with the key or the words in its hands
     when=scan,no-memory:160
     nothing_left "the key" 2 $key128 seal --key key128 clear x

@@ -1,20 +1,27 @@
+# shellcheck shell=sh disable=SC2086,SC2154
+# (command lines are split into arguments; samples and helpers are those of tests/cli/run)
+#
 # Part of tests/cli/run: planting pages.
 
 heading='     TRIAL      ENTRY R ROW COL'
 
-# A book of three sheets, with the least and the greatest numbers and a plot in reserve; its pages; and the page of the sample book.
+# A book of three sheets, with the least and the greatest numbers and a plot in reserve; its pages;
+# and the page of the sample book.
 page_samples() {
     unhex 01000003 0000000100010000$start 0000002900020000$start ffffffff00020800$start \
         00000001000000010100010001000000 \
         $record 00000029ffffffff0400000000000000 \
         ffffffffffffffff0803e703e7000000 ffffffff3b9aca00010064000a000000 >three
     printf '%s\n' "$heading" '         1          1 1   1   1' >three0
-    printf '%s\n' "$heading" '        41          7 2  12   3' '        41 4294967295 4   0   0' >three1
-    printf '%s\n' "$heading" '4294967295 4294967295 8 999 999' '4294967295 1000000000 1 100  10' >three2
+    printf '%s\n' "$heading" '        41          7 2  12   3' '        41 4294967295 4   0   0' \
+        >three1
+    printf '%s\n' "$heading" '4294967295 4294967295 8 999 999' '4294967295 1000000000 1 100  10' \
+        >three2
     printf '%s\n' "$heading" '        41          7 2  12   3' >page
 }
 
-# pages_of PLAN: the pages that the sheets of a plan must have, from its lines alone, as page.0, page.1 ..; prints how many.
+# pages_of PLAN: the pages that the sheets of a plan must have, from its lines alone, as page.0,
+# page.1 ..; prints how many.
 pages_of() {
     awk -F, -v heading="$heading" 'NR == 1 { next }
         $1 != trial { close(file); trial = $1; file = "page." n++; print heading >file }
@@ -27,7 +34,8 @@ pages_are() {
     rm -f page.*
     sheets=$(pages_of "$2")
     sheet=0
-    while [ $sheet -lt $sheets ] && "$planbook" page --sheet $sheet "$3" 2>err | cmp -s - page.$sheet; do
+    while [ $sheet -lt $sheets ] && "$planbook" page --sheet $sheet "$3" 2>err | cmp -s - \
+        page.$sheet; do
         sheet=$((sheet + 1))
     done
     holds "$1: sheet $sheet of $sheets: $(cat err)" [ $sheet -eq $sheets ]
@@ -106,7 +114,8 @@ no_sheet() {
 test_sheets() {
     page_samples
     # the next ones, and numbers that would be a sheet's if their highest bits were lost
-    for sheet in 3 4 63 64 65 255 256 65536 2147483648 4294967296 4294967297 9223372036854775808 18446744073709551615; do
+    for sheet in 3 4 63 64 65 255 256 65536 2147483648 4294967296 4294967297 9223372036854775808 \
+        18446744073709551615; do
         no_sheet "3 sheets, counted from 0: there is no sheet $sheet" $sheet three
     done
     for sheet in 1 2 18446744073709551615; do
@@ -114,11 +123,14 @@ test_sheets() {
     done
     no_sheet "3 sheets, counted from 0: there is no sheet 7" 007 three
     cp three in
-    expect_exactly 1 "planbook: standard input has 3 sheets, counted from 0: there is no sheet 3 [check 13]" page --sheet 3
+    expect_exactly 1 \
+        "planbook: standard input has 3 sheets, counted from 0: there is no sheet 3 [check 13]" \
+        page --sheet 3
     same out empty
     # where the number is a trial's, its sheet is told; 4294967337 is 2^32 + 41
     no_sheet "3 sheets, counted from 0: there is no sheet 41; trial 41 is sheet 1" 41 three
-    no_sheet "3 sheets, counted from 0: there is no sheet 4294967295; trial 4294967295 is sheet 2" 4294967295 three
+    no_sheet "3 sheets, counted from 0: there is no sheet 4294967295; trial 4294967295 is sheet 2" \
+        4294967295 three
     no_sheet "1 sheet, counted from 0: there is no sheet 41; trial 41 is sheet 0" 41 clear
     no_sheet "3 sheets, counted from 0: there is no sheet 4294967337" 4294967337 three
     # what is a sheet is never taken for a trial
@@ -143,7 +155,8 @@ test_bad_sheets() {
     done
     for sheet in 18446744073709551616 99999999999999999999999999 "1
 "; do
-        expect_exactly 2 "planbook: --sheet takes a number: $not_shown" page --sheet "$sheet" three x
+        expect_exactly 2 "planbook: --sheet takes a number: $not_shown" page --sheet "$sheet" \
+            three x
         holds "nothing is made of --sheet $sheet" [ ! -e x ]
     done
     # what is wrong with the arguments is said before anything is read
@@ -157,16 +170,24 @@ test_page_refusals() {
     page_samples
     for sheet in 0 7; do
         page="page --sheet $sheet"
-        expect_exactly 1 "planbook: sealed128 is sealed, and a page needs a clear book: open it first [check 6]" $page sealed128 x
-        expect_exactly 1 "planbook: plan.csv is text, and a page needs a clear book: planbook pack makes one of a plan [check 6]" $page plan.csv x
-        expect_exactly 1 "planbook: note is text, and a page needs a clear book: planbook pack makes one of a plan [check 6]" $page note x
+        needs="a page needs a clear book"
+        expect_exactly 1 "planbook: sealed128 is sealed, and $needs: open it first [check 6]" \
+            $page sealed128 x
+        for name in plan.csv note; do
+            said="planbook: $name is text, and $needs: planbook pack makes one of a plan [check 6]"
+            expect_exactly 1 "$said" $page $name x
+        done
         printf '\002\001\000\000' >odd
-        expect_exactly 1 "planbook: odd is no clear plan book: it does not begin with 01 00 [check 6]" $page odd x
-        expect_exactly 1 "planbook: empty has 0 bytes, and a plan book has at least 4 [check 5]" $page empty x
+        expect_exactly 1 \
+            "planbook: odd is no clear plan book: it does not begin with 01 00 [check 6]" $page \
+            odd x
+        expect_exactly 1 "planbook: empty has 0 bytes, and a plan book has at least 4 [check 5]" \
+            $page empty x
         # cut in the head, the contents and the records
+        cut_off="its end is missing"
         for cut in "3:has 3 bytes, and a plan book has at least 4 [check 5]" \
-            "4:has 4 bytes, but the contents of its 3 trials need 76: its end is missing [check 8]" \
-            "75:has 75 bytes, but the contents of its 3 trials need 76: its end is missing [check 8]" \
+            "4:has 4 bytes, but the contents of its 3 trials need 76: $cut_off [check 8]" \
+            "75:has 75 bytes, but the contents of its 3 trials need 76: $cut_off [check 8]" \
             "76:has 76 bytes, but its contents say 156: its end is missing [check 10]" \
             "155:has 155 bytes, but its contents say 156: its end is missing [check 10]"; do
             head -c ${cut%%:*} three >in
@@ -174,12 +195,14 @@ test_page_refusals() {
         done
         # a record of another sheet than the one asked for: the last byte of the book
         { head -c 155 three; printf '\001'; } >damaged
-        expect_exactly 1 "planbook: damaged, trial 4294967295, place 1: the last three bytes of the record are not zero [check 11]" $page damaged x
+        said="planbook: damaged, trial 4294967295, place 1: the last three bytes of the record"
+        expect_exactly 1 "$said are not zero [check 11]" $page damaged x
         holds "no page of a refused book" [ ! -e x ]
     done
     # opened under a wrong key: nothing comes through the pipe
     "$planbook" open --key key192 sealed128 2>/dev/null | "$planbook" page >out 2>err
-    judge "the page of a book that does not open" 1 "standard input has 0 bytes, and a plan book has at least 4 [check 5]" $?
+    judge "the page of a book that does not open" 1 \
+        "standard input has 0 bytes, and a plan book has at least 4 [check 5]" $?
     same out empty
 }
 
@@ -187,7 +210,8 @@ test_page_files() {
     page_samples
     # an existing file is kept without --force, and with it too where the page is refused
     cp precious old
-    expect_exactly 2 "planbook: old exists: name another output, or replace it with --force" page three old
+    expect_exactly 2 "planbook: old exists: name another output, or replace it with --force" page \
+        three old
     expect 1 "[check 13]" page --force --sheet 3 three old
     expect 1 "[check 6]" page --force sealed128 old
     same old precious
@@ -199,7 +223,8 @@ test_page_files() {
     mode_is 600 new
     same new three0
     chmod 644 old
-    expect_exactly 0 "planbook: warning: old keeps its mode 644, so others may read it" page --force three old
+    expect_exactly 0 "planbook: warning: old keeps its mode 644, so others may read it" page \
+        --force three old
     mode_is 644 old
     same old three0
     # an output that is the input, whatever its name
@@ -208,6 +233,7 @@ test_page_files() {
     for name in three ./three link; do
         expect 2 "$name is an input as well" page --force three $name
     done
+    # shellcheck disable=SC2094
     "$planbook" page three >>three 2>err
     judge "the page goes to the book itself" 2 "standard output is an input as well" $?
     same three kept
@@ -225,7 +251,8 @@ test_page_files() {
     holds "no part of a page" [ ! -e x ]
 }
 
-# The plans of random books are made by tests/cli/random_book.c, the others by commands of past seasons.
+# The plans of random books are made by tests/cli/random_book.c, the others by commands of past
+# seasons.
 test_pages_of_plans() {
     rm -rf random && mkdir random || exit 2
     for seed in $(seq 1 "${RANDOM_BOOKS:-25}"); do
@@ -234,7 +261,8 @@ test_pages_of_plans() {
     done
     rm -rf random
     for season in 0.2.0 1.1.0; do
-        pages_are "pages of a book of version $season" "$here/tests/past/$season/plan.csv" "$here/tests/past/$season/clear.book"
+        pages_are "pages of a book of version $season" "$here/tests/past/$season/plan.csv" \
+            "$here/tests/past/$season/clear.book"
     done
     rm -f page.*
 }
@@ -251,7 +279,8 @@ test_page_example() {
     pages_of plan.csv >/dev/null
     sed -n "/^$heading/,/^\.Ed/p" "$here/cli/planbook.1" | sed '/^\.Ed/d' >shown
     same shown page.0
-    sed -nE -e 's/^\.Dl (planbook page .*) \| lp$/\1/p' -e '/^planbook .*\| planbook page /p' "$here/cli/planbook.1" >lines
+    sed -nE -e 's/^\.Dl (planbook page .*) \| lp$/\1/p' -e '/^planbook .*\| planbook page /p' \
+        "$here/cli/planbook.1" >lines
     holds "the manual page has three lines that make pages" [ "$(wc -l <lines)" -eq 3 ]
     PATH=$PWD:$PATH sh -e lines >got 2>../err
     judge "the examples of the manual page" 0 "" $?

@@ -1,3 +1,6 @@
+# shellcheck shell=sh disable=SC2086,SC2154
+# (command lines are split into arguments; samples and helpers are those of tests/cli/run)
+#
 # Part of tests/cli/run: what each verb does when all is well.
 
 test_seal_and_open() {
@@ -54,7 +57,8 @@ test_one_step() {
     expect 0 "" seal --key key192 - t
     expect 0 "" open --csv --key key192 t
     same out plan.csv
-    holds "each sealing draws new start blocks" [ "$("$planbook" show s | sed -n 4p)" != "$("$planbook" show t | sed -n 4p)" ]
+    holds "each sealing draws new start blocks" [ "$("$planbook" show s | sed -n 4p)" != \
+        "$("$planbook" show t | sed -n 4p)" ]
     expect 0 "" seal --key key192 --trials "$here/examples/trials.csv" "$here/examples/plan.csv" u
     expect 0 "" open --key key192 --trials t.csv u back.csv --force
     same back.csv "$here/examples/plan.csv"
@@ -62,7 +66,8 @@ test_one_step() {
     same got "$here/examples/trials.csv"
     mkdir "a folder"
     cp plan.csv "a folder/the plan.csv"
-    (cd "a folder" && "$planbook" seal --key ../key192 "the plan.csv" "../a folder/the book" && "$planbook" open --csv --key ../key192 "the book") >out 2>err
+    (cd "a folder" && "$planbook" seal --key ../key192 "the plan.csv" "../a folder/the book" && \
+        "$planbook" open --csv --key ../key192 "the book") >out 2>err
     judge "names with spaces, from another folder" 0 "" $?
     same out plan.csv
     rm -rf s t u c t.csv back.csv back.CSV "a folder"
@@ -78,14 +83,14 @@ clear plan book: sheets 1, records 1, bytes 44
      TRIAL PLACE      ENTRY REPLICATE   ROW COLUMN
         41     0          7         2    12      3
 END
-    sed -e s/clear/sealed/ -e 4q table >head
+    sed -e s/clear/sealed/ -e 4q table >head.txt
     expect 0 "" show clear
     same out table
     expect 0 "" show clear shown
     same shown table
     mode_is 600 shown
     expect 0 "" show sealed192
-    same out head
+    same out head.txt
     # with the key, what is shown is called opened
     sed '1s/^clear plan book:/clear plan book, opened from a sealed one:/' table >opened
     for bits in 128 192 256; do
@@ -98,15 +103,17 @@ END
     cp sealed256 in
     expect 0 "" labels
     same out label
-    # Two sheets: trial 41 with two records, trial 4294967295 with one. Sealed records may be any bytes.
-    unhex 02000002 0000002900020000$start ffffffff00010000$cipher128 $cipher128 $cipher192 $cipher256 >two
+    # Two sheets: trial 41 with two records, trial 4294967295 with one. Sealed records may be any
+    # bytes.
+    unhex 02000002 0000002900020000$start ffffffff00010000$cipher128 $cipher128 $cipher192 \
+        $cipher256 >two
     printf '41 0 %s\n41 1 %s\n4294967295 0 %s\n' $cipher128 $cipher192 $cipher256 >label
     expect 0 "" labels two labels
     same labels label
-    echo 'sealed plan book: sheets 0, records 0, bytes 4' >head
+    echo 'sealed plan book: sheets 0, records 0, bytes 4' >head.txt
     unhex 02000000 >none
     expect 0 "" show none
-    same out head
+    same out head.txt
     expect 0 "" labels none
     same out empty
     rm -f shown labels
@@ -130,9 +137,9 @@ END
         expect 0 "" show --json --key key$bits sealed$bits
         same out opened
     done
-    { sed -n -e '1s/clear/sealed/' -e '1,3p' wanted; printf ' ]\n}\n'; } >head
+    { sed -n -e '1s/clear/sealed/' -e '1,3p' wanted; printf ' ]\n}\n'; } >head.txt
     expect 0 "" show --json sealed128
-    same out head
+    same out head.txt
     printf '[\n {"trial": 41, "place": 0, "label": "%s"}\n]\n' $cipher128 >wanted
     expect 0 "" labels --json sealed128 x
     same x wanted
@@ -142,7 +149,8 @@ END
     same out wanted
     rm -f x
     if command -v jq >/dev/null; then
-        "$planbook" show --json --key key128 sealed128 | jq -r '.records[] | [.trial, .entry, .replicate, .row, .column] | @csv' >out
+        "$planbook" show --json --key key128 sealed128 | jq -r \
+            '.records[] | [.trial, .entry, .replicate, .row, .column] | @csv' >out
         tail -n +2 plan.csv >lines
         same out lines
     else
@@ -151,11 +159,12 @@ END
 }
 
 test_find() {
-    unhex 01000002 0000002900020000$start ffffffff00010000$cipher128 $record 000000290000000803000103e7000000 \
+    unhex 01000002 0000002900020000$start ffffffff00010000$cipher128 $record \
+        000000290000000803000103e7000000 \
         ffffffff000000090400020004000000 >in
     expect 0 "" seal --key key128 - s
-    printf '     TRIAL PLACE      ENTRY REPLICATE   ROW COLUMN\n' >head
-    { cat head; echo '        41     0          7         2    12      3'; } >wanted
+    printf '     TRIAL PLACE      ENTRY REPLICATE   ROW COLUMN\n' >head.txt
+    { cat head.txt; echo '        41     0          7         2    12      3'; } >wanted
     expect 0 "" find --key key128 s $cipher128
     same out wanted
     for bits in 128 192 256; do
@@ -164,27 +173,32 @@ test_find() {
         expect 0 "" find --key-hex hex$bits sealed$bits 41 0
         same out wanted
     done
-    { cat head; echo '        41     1          8         3     1    999'; } >wanted
+    { cat head.txt; echo '        41     1          8         3     1    999'; } >wanted
     expect 0 "" find --key key128 s "$("$planbook" labels s | sed -n '2s/.* //p' | tr a-f A-F)"
     same out wanted
     expect 0 "" find --key-hex hex128 s 41 1
     same out wanted
-    echo '{"trial": 4294967295, "place": 0, "entry": 9, "replicate": 4, "row": 2, "column": 4, "reserve": false}' >wanted
+    {
+        printf '{"trial": 4294967295, "place": 0, "entry": 9, "replicate": 4, '
+        echo '"row": 2, "column": 4, "reserve": false}'
+    } >wanted
     expect 0 "" find --json --key key128 s 4294967295 0
     same out wanted
     cp s in
     expect 0 "" find --json --key key128 - "$("$planbook" labels s | sed -n '3s/.* //p')"
     same out wanted
     # a label as a scanner gives it, or as it is pasted
-    { cat head; echo '        41     0          7         2    12      3'; } >wanted
-    for label in " $cipher128" "$cipher128  " "$(printf '\t%s\r' $cipher128)" "$(printf '%s\r\n.' $cipher128 | sed '$d')
+    { cat head.txt; echo '        41     0          7         2    12      3'; } >wanted
+    for label in " $cipher128" "$cipher128  " "$(printf '\t%s\r' $cipher128)" \
+        "$(printf '%s\r\n.' $cipher128 | sed '$d')
 "; do
         expect 0 "" find --key key128 s "$label"
         same out wanted
     done
     expect_exactly 1 "planbook: s has no record with this label" find --key key128 s $cipher192
     expect_exactly 1 "planbook: s has no trial 42" find --key key128 s 42 0
-    expect_exactly 1 "planbook: trial 41 of s has the places 0 to 1, and not 2" find --key key128 s 41 2
+    expect_exactly 1 "planbook: trial 41 of s has the places 0 to 1, and not 2" find --key key128 \
+        s 41 2
     bad="planbook: the label is not 32 hexadecimal digits"
     expect_exactly 2 "$bad: there are 2" find --key key128 s 41
     expect_exactly 2 "$bad: there are 33" find --key key128 s ${cipher128}0
@@ -273,7 +287,8 @@ test_pack_and_unpack() {
     rm -f book p.csv p2.csv s.csv
     # fresh start blocks are what the system gave, trial by trial
     printf 'trial,entry,replicate,row,column\n43,1,1,1,1\n41,7,2,12,3\n' >two.csv
-    printf 'trial,start_block,replicates\n41,0102030405060708090a0b0c0d0e0f10,0\n43,1112131415161718191a1b1c1d1e1f20,0\n' >wanted
+    printf '%s\n' trial,start_block,replicates 41,0102030405060708090a0b0c0d0e0f10,0 \
+        43,1112131415161718191a1b1c1d1e1f20,0 >wanted
     with_fault count pack two.csv book
     judge "pack draws start blocks" 0 "" $?
     expect 0 "" unpack --trials s.csv book p.csv
@@ -283,7 +298,8 @@ test_pack_and_unpack() {
     holds "no book without random bytes" [ ! -e x ]
     expect 0 "" pack plan.csv a
     expect 0 "" pack plan.csv b
-    holds "two books of one plan have other start blocks" [ "$("$planbook" show a | sed -n 4p)" != "$("$planbook" show b | sed -n 4p)" ]
+    holds "two books of one plan have other start blocks" [ "$("$planbook" show a | sed -n 4p)" != \
+        "$("$planbook" show b | sed -n 4p)" ]
     rm -f a b book p.csv s.csv
 }
 
@@ -294,24 +310,27 @@ random_book() {
         "$planbook" pack --trials mixed-trials.csv mixed.csv mixed 2>/dev/null && cmp mixed book &&
         for way in 1 2 3; do
             "$planbook" seal --key key --way $way --force book s && cmp s sealed &&
-                "$planbook" open --key key --way $way --force sealed opened && cmp opened book || return 1
+                "$planbook" open --key key --way $way --force sealed opened && cmp opened book || \
+                    return 1
         done &&
         "$planbook" show book >out && cmp out show.txt &&
         "$planbook" show --json book >out && cmp out show.json &&
         "$planbook" show sealed >out && cmp out head.txt &&
         "$planbook" show --json sealed >out && cmp out head.json &&
-        "$planbook" show --key key sealed >out && sed '1s/, opened from a sealed one:/:/' out | cmp - show.txt &&
+        "$planbook" show --key key sealed >out && sed '1s/, opened from a sealed one:/:/' out | \
+            cmp - show.txt &&
         "$planbook" labels sealed >out && cmp out labels.txt &&
         "$planbook" labels --json sealed >out && cmp out labels.json &&
         "$planbook" open --csv --key key sealed >out && cmp out plan.csv &&
-        "$planbook" open --key key --trials t.csv sealed q.csv && cmp q.csv plan.csv && cmp t.csv trials.csv || return 1
+        "$planbook" open --key key --trials t.csv sealed q.csv && cmp q.csv plan.csv && cmp t.csv \
+            trials.csv || return 1
     while read -r label trial place rest; do
         for asked in "$label" "$trial $place"; do
             # shellcheck disable=SC2086
             found=$("$planbook" find --key key sealed $asked | tail -n 1 | tr -s ' ')
             [ "${found# }" = "$trial $place $rest" ] || return 1
         done
-    done <find
+    done <find.txt
 }
 
 test_random_books() {
@@ -326,8 +345,9 @@ test_random_books() {
     done
 }
 
-# The sanitized command drops what it leaks, so leaks are looked for here, on the long ways through the command.
-test_memory() {
+# The sanitized command drops what it leaks, so leaks are looked for here, on the long ways through
+# the command.
+test_valgrind() {
     if ! command -v valgrind >/dev/null; then
         skip "the command under valgrind: not installed"
         return
@@ -339,9 +359,11 @@ test_memory() {
     done
     valgrind -q --leak-check=full --error-exitcode=9 "$plain" seal --key key128 plan.csv x 2>err
     judge "valgrind planbook seal" 0 "" $?
-    valgrind -q --leak-check=full --error-exitcode=9 "$plain" find --json --key key128 sealed128 41 0 >out 2>err
+    valgrind -q --leak-check=full --error-exitcode=9 "$plain" find --json --key key128 sealed128 \
+        41 0 >out 2>err
     judge "valgrind planbook find" 0 "" $?
-    valgrind -q --leak-check=full --error-exitcode=9 "$plain" note --key key128 --counter $counter note128 >out 2>err
+    valgrind -q --leak-check=full --error-exitcode=9 "$plain" note --key key128 --counter $counter \
+        note128 >out 2>err
     judge "valgrind planbook note" 0 "" $?
     same out note
     valgrind -q --leak-check=full --error-exitcode=9 "$plain" page clear >out 2>err
