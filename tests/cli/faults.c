@@ -227,8 +227,8 @@ static void scan_here(void)
         }
     fprintf(stderr,
             scanned < 65536 ? "nothing scanned\n"
-            : found > 0     ? "left behind %zu times\n"
-                            : "nothing left behind\n",
+            : found > 0     ? "left %zu times\n"
+                            : "nothing was left\n",
             found);
 }
 

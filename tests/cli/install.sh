@@ -12,8 +12,8 @@ test_header() {
     holds "the header is C99" $cc -std=c99 $strict "$work/use.c" "$PLANBOOK_LIB" -o "$work/use"
     holds "a C program runs" "$work/use"
     if command -v c++ >/dev/null; then
-        holds "the header is C++" c++ -std=c++11 -x c++ $strict "$work/use.c" -x none \
-            "$PLANBOOK_LIB" -o "$work/use"
+        holds "the header is C++" \
+            c++ -std=c++11 -x c++ $strict "$work/use.c" -x none "$PLANBOOK_LIB" -o "$work/use"
         holds "a C++ program runs" "$work/use"
     else
         skip "the header in C++: no c++"
@@ -24,8 +24,8 @@ test_header() {
 
 test_install() {
     cd "$here" || exit 2
-    holds "make install" make -s install CLI_DIR="$built" PREFIX=/opt/planbook \
-        DESTDIR="$work/stage" >/dev/null
+    holds "make install" \
+        make -s install CLI_DIR="$built" PREFIX=/opt/planbook DESTDIR="$work/stage" >/dev/null
     holds "the staged manual page" [ -f "$work/stage/opt/planbook/share/man/man1/planbook.1" ]
     holds "the staged command runs" "$work/stage/opt/planbook/bin/planbook" --help >/dev/null
     make -s install CLI_DIR="$built" PREFIX="$work/prefix" >/dev/null
@@ -35,8 +35,8 @@ test_install() {
         skip "the pkg-config file: no pkg-config"
         flags="-I$work/prefix/include -L$work/prefix/lib -lplanbook"
     fi
-    holds "the example is built from what is installed" $cc -Wall -Wextra -Werror \
-        examples/seal_book.c $flags -o "$work/seal_book"
+    holds "the example is built from what is installed" \
+        $cc -Wall -Wextra -Werror examples/seal_book.c $flags -o "$work/seal_book"
     cd "$work" || exit 2
     unhex 000102030405060708090a0b0c0d0e0f >key
     chmod 600 key
@@ -60,8 +60,8 @@ test_install() {
     holds "the example makes nothing of a sealed book" [ ! -e t2 ]
     for operands in "" clear "clear t2 two"; do
         ./seal_book $operands 2>err
-        judge "the example with the operands '$operands'" 2 \
-            "usage: seal_book CLEAR SEALED [CLEAR SEALED]..." $?
+        judge "the example with the operands '$operands'" \
+            2 "usage: seal_book CLEAR SEALED [CLEAR SEALED]..." $?
     done
     ./seal_book missing t2 2>err
     judge "the example without a book" 2 "missing: No such file or directory" $?
@@ -75,17 +75,17 @@ test_install() {
 test_demo() {
     cd "$here" || exit 2
     holds "the demo" make -s demo CLI_DIR="$built" >"$work/demo.txt" 2>&1
-    holds "the demo's program seals two books" grep -q "Its two books are those of the command" \
-        "$work/demo.txt"
+    holds "the demo's program seals two books" \
+        grep -q "Its two books are those of the command" "$work/demo.txt"
     holds "the demo opens its book" grep -q "The opened book is the clear one" "$work/demo.txt"
-    holds "the demo goes from a plan to a plan" grep -q "The plan is the same, byte for byte" \
-        "$work/demo.txt"
+    holds "the demo goes from a plan to a plan" \
+        grep -q "The plan is the same, byte for byte" "$work/demo.txt"
     holds "the demo prints a page" grep -qx "        58          7 1   4   1" "$work/demo.txt"
-    holds "the demo seals a note and opens it" grep -q "The note is the same, byte for byte" \
-        "$work/demo.txt"
+    holds "the demo seals a note and opens it" \
+        grep -q "The note is the same, byte for byte" "$work/demo.txt"
     holds "the demo compares digests" grep -q "sealed.book: OK" "$work/demo.txt"
-    holds "the demo shows the spare plant" grep -qx \
-        "        41     8        105         1      reserve" "$work/demo.txt"
+    holds "the demo shows the spare plant" \
+        grep -qx "        41     8        105         1      reserve" "$work/demo.txt"
     holds "the demo has no warning" [ -z "$(grep warning "$work/demo.txt")" ]
     cd "$work" || exit 2
 }

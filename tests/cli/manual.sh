@@ -37,7 +37,8 @@ test_completion() {
 test_manual() {
     cd "$here" || exit 2
     if command -v groff >/dev/null; then
-        holds "the manual page has no slips" [ -z "$(groff -mandoc -ww -z cli/planbook.1 2>&1)" ]
+        holds "groff finds nothing wrong with the manual page" \
+            [ -z "$(groff -mandoc -ww -z cli/planbook.1 2>&1)" ]
     else
         skip "the manual page: no groff"
     fi
@@ -45,8 +46,8 @@ test_manual() {
         holds "the manual page has $option" grep -qE -e "Fl ${option#-}( |\$)" cli/planbook.1
     done
     for verb in $("$planbook" --help | sed -n 's/^  \([a-z]*\) .*/\1/p'); do
-        holds "the manual page has $verb in its synopsis and its list" [ \
-            "$(grep -cE "^(\.It )?\.?Cm $verb\$|^\.It Cm $verb\$" cli/planbook.1)" -ge 2 ]
+        holds "the manual page has $verb in its synopsis and its list" \
+            [ "$(grep -cE "^(\.It )?\.?Cm $verb\$|^\.It Cm $verb\$" cli/planbook.1)" -ge 2 ]
     done
     if [ -f README.md ]; then
         # the program as the README prints it, between its first line and the closing fence

@@ -42,8 +42,8 @@ test_notes() {
     expect 0 "" note --force --key - --counter $counter note192 x
     same x note
     rm -f x
-    { head -c 20 note; sleep 0.2; tail -c +21 note; } | "$planbook" note --key key128 --counter \
-        $counter 2>err |
+    { head -c 20 note; sleep 0.2; tail -c +21 note; } |
+        "$planbook" note --key key128 --counter $counter 2>err |
         "$planbook" note --key key128 --counter $counter >out 2>>err
     judge "a note in two pieces, sealed and opened in a pipe" 0 "" $?
     same out note
@@ -84,7 +84,7 @@ test_counters() {
     echo $counter >kept
     note_gives key128 "$(cat kept)" note note128
     # the wrong key gives the exclusive or of both ciphertexts, and a wrong counter block other
-    # bytes, both without a word
+    # bytes, both without a message
     unhex $cipher128 >sealed_zeros
     unhex 3c63dd990476270971f424d1b8751550 >wanted
     note_gives key192 $counter sealed_zeros wanted
@@ -154,29 +154,29 @@ test_note_lengths() {
     head -c 16385 /dev/zero >long
     for name in long /dev/zero; do
         expect_exactly 1 \
-            "planbook: $name is longer than a note can be, which is 16,384 bytes [check 12]" note \
-            --key key128 --counter $counter $name x
+            "planbook: $name is longer than a note can be, which is 16,384 bytes [check 12]" \
+            note --key key128 --counter $counter $name x
         holds "nothing is made of $name" [ ! -e x ]
-        expect_nothing x 1 "$name is longer than a note can be" note --key key128 --counter \
-            $counter $name
+        expect_nothing x 1 "$name is longer than a note can be" \
+            note --key key128 --counter $counter $name
     done
     head -c 20000 /dev/zero >long
     { "$planbook" note --key key128 --counter $counter - x 2>err; echo $? >status; cat >rest; } \
         <long
-    judge "a note of 20,000 bytes" 1 \
-        "standard input is longer than a note can be, which is 16,384 bytes [check 12]" \
+    judge "a note of 20,000 bytes" \
+        1 "standard input is longer than a note can be, which is 16,384 bytes [check 12]" \
         "$(cat status)"
     holds "nothing is made of it" [ ! -e x ]
     holds "it is read up to the first byte too many" [ "$(wc -c <rest)" -eq 3615 ]
-    # of several checks that fail the first is told
+    # of several checks that fail the first is reported
     head -c 15 /dev/zero >short
     chmod 600 short
-    expect_nothing x 1 "the key in short is 15 bytes long, not 16, 24 or 32 [check 1]" note --key \
-        short --counter 00 --way 4 long x
-    expect_nothing x 1 "--way 4: the ways are 1, 2 and 3 [check 2]" note --key key128 --counter 00 \
-        --way 4 long x
-    expect_nothing x 1 "the counter block is 1 bytes long, not 16" note --key key128 --counter 00 \
-        long x
+    expect_nothing x 1 "the key in short is 15 bytes long, not 16, 24 or 32 [check 1]" \
+        note --key short --counter 00 --way 4 long x
+    expect_nothing x 1 "--way 4: the ways are 1, 2 and 3 [check 2]" \
+        note --key key128 --counter 00 --way 4 long x
+    expect_nothing x 1 "the counter block is 1 bytes long, not 16" \
+        note --key key128 --counter 00 long x
     rm -f long short
 }
 
@@ -198,8 +198,8 @@ test_note_files() {
     mode_is 600 c
     same c note
     chmod 644 old
-    expect_exactly 0 "planbook: warning: old keeps its mode 644, so others may read it" $crypt \
-        --force note128 old
+    expect_exactly 0 "planbook: warning: old keeps its mode 644, so others may read it" \
+        $crypt --force note128 old
     mode_is 644 old
     same old note
     rm -f old s c
@@ -207,8 +207,8 @@ test_note_files() {
     expect_nothing x 2 "cannot open missing: No such file" $crypt missing x
     expect_nothing x 2 "cannot open : No such file" $crypt "" x
     expect_nothing x 2 "cannot read folder: Is a directory" $crypt folder x
-    expect_nothing x 2 "cannot open missing: No such file" note --key missing --counter $counter \
-        note x
+    expect_nothing x 2 "cannot open missing: No such file" \
+        note --key missing --counter $counter note x
     with_fault full $crypt note x
     judge "disk full in the middle of a note" 2 "cannot write x: No space left on device" $?
     holds "no part of a note" [ ! -e x ]
@@ -222,8 +222,8 @@ test_note_example() {
     "$planbook" keygen notes.key
     cp ../note note.txt
     sed -n '/^counter=/,/^\.Ed/p' "$here/cli/planbook.1" | sed -e '/^\.Ed/d' -e 's/\\e/\\/g' >lines
-    holds "the manual page shows how a note is sealed and opened" [ \
-        "$(grep -c '^planbook note ' lines)" -eq 2 ]
+    holds "the manual page shows how a note is sealed and opened" \
+        [ "$(grep -c '^planbook note ' lines)" -eq 2 ]
     for turn in first second; do
         PATH=$PWD:$PATH sh -e lines 2>../err
         judge "the example of the manual page, $turn time" 0 "" $?

@@ -44,8 +44,8 @@ test_existing_outputs() {
     for name in both ./both here/both "$PWD/both"; do
         expect_nothing both 2 "both and $name $one" unpack --trials "$name" clear both
         expect_nothing both 2 "both and $name $one" unpack --force --trials "$name" clear both
-        expect_nothing both.csv 2 "both.csv and $name.csv $one" open --key key128 --trials \
-            "$name.csv" sealed128 both.csv
+        expect_nothing both.csv 2 "both.csv and $name.csv $one" \
+            open --key key128 --trials "$name.csv" sealed128 both.csv
         cp precious both
         expect 2 "both and $name $one" unpack --force --trials "$name" clear both
         same both precious
@@ -94,8 +94,8 @@ test_modes() {
     done
     cp precious p
     chmod 644 p
-    expect_exactly 0 "planbook: warning: p keeps its mode 644, so others may read it" open --force \
-        --key key128 sealed128 p
+    expect_exactly 0 "planbook: warning: p keeps its mode 644, so others may read it" \
+        open --force --key key128 sealed128 p
     mode_is 644 p
     same p clear
     chmod 600 p
@@ -151,8 +151,8 @@ test_no_links() {
     judge "a name that is reserved and cannot be used" 2 "cannot make x: Input/output error" $?
     holds "the reserved name is given up" [ ! -e x ]
     with_fault directory:5 seal --key key128 clear folder/x
-    judge "a directory that cannot be synchronised" 2 \
-        "folder/x is made, but its directory cannot be synchronised: Input/output error" $?
+    judge "a directory that cannot be synchronised" \
+        2 "folder/x is made, but its directory cannot be synchronised: Input/output error" $?
     same folder/x sealed128
     with_fault directory:22 seal --force --key key128 clear folder/x
     judge "a file system that cannot synchronise directories" 0 "" $?
@@ -161,14 +161,12 @@ test_no_links() {
 
 test_full_disk() {
     for line in "seal --key key128 clear" "open --key key128 sealed128" "show clear" \
-        "labels sealed128" \
-        "pack --trials trials.csv plan.csv" "unpack --trials x clear" "unpack clear" \
-        "find --key key128 sealed128 41 0" \
-        "check plan.csv" "keygen -" "page clear" "note --key key128 --counter $counter note" \
-        "--help" "help seal" "--version"; do
+        "labels sealed128" "pack --trials trials.csv plan.csv" "unpack --trials x clear" \
+        "unpack clear" "find --key key128 sealed128 41 0" "check plan.csv" "keygen -" "page clear" \
+        "note --key key128 --counter $counter note" "--help" "help seal" "--version"; do
         "$planbook" $line >/dev/full 2>err
-        judge "planbook $line, full disk" 2 \
-            "cannot write standard output: No space left on device" $?
+        judge "planbook $line, full disk" \
+            2 "cannot write standard output: No space left on device" $?
         "$planbook" $line >&- 2>err
         judge "planbook $line, standard output closed" 2 "cannot write standard output" $?
     done
@@ -189,7 +187,7 @@ test_signals() {
     for signal in 1 2 3 13 14 15; do
         with_fault signal:$signal unpack --trials folder/y clear x
         status=$?
-        : >err # the shell writes a word about the signal there
+        : >err # the shell writes about the signal there
         judge "ended by signal $signal" $((128 + signal)) "" $status
         holds "signal $signal: no output" [ ! -e x ]
         holds "signal $signal: no second output" [ ! -e folder/y ]
@@ -234,13 +232,13 @@ test_streams() {
     judge "a book in two pieces" 0 "" $?
     same out sealed128
     { cat key256; sleep 0.2; echo; } | "$planbook" seal --key - clear x 2>err
-    judge "a key and a byte too much later" 1 \
-        "the key in standard input is 33 bytes long, not 16, 24 or 32 [check 1]" $?
+    judge "a key and a byte too much later" \
+        1 "the key in standard input is 33 bytes long, not 16, 24 or 32 [check 1]" $?
     "$planbook" labels sealed128 2>err | true
     judge "a reader that leaves early" 0 "" 0
 }
 
-# Root may write anywhere and read anything, so these run as somebody else.
+# Root may write anywhere and read anything, so these run as another user.
 test_permissions() {
     if [ "$(id -u)" -ne 0 ]; then
         as_other=
@@ -267,8 +265,8 @@ test_permissions() {
     chmod 0 unreadable
     for line in show page "note --key key128 --counter $counter"; do
         $as_other ./other $line unreadable 2>err
-        judge "planbook $line: an input that may not be read" 2 \
-            "cannot open unreadable: Permission denied" $?
+        judge "planbook $line: an input that may not be read" \
+            2 "cannot open unreadable: Permission denied" $?
     done
     $as_other ./other seal --key unreadable clear 2>err >out
     judge "a key that may not be read" 2 "cannot open unreadable: Permission denied" $?
@@ -281,12 +279,11 @@ test_terminal() {
         return
     fi
     for line in "seal --key key128 clear" "open --key key128 sealed128 -" "pack plan.csv" \
-        "keygen -" \
-        "note --key key128 --counter $counter note" \
+        "keygen -" "note --key key128 --counter $counter note" \
         "note --key key128 --counter $counter note128 -"; do
         script -qec "'$planbook' $line" /dev/null >err 2>&1 </dev/null
-        judge "planbook $line, to a terminal" 2 \
-            "books, keys and notes may be any bytes, and do not go to a terminal" $?
+        judge "planbook $line, to a terminal" \
+            2 "books, keys and notes may be any bytes, and do not go to a terminal" $?
         holds "planbook $line: only the message" [ "$(wc -l <err)" -eq 1 ]
     done
     script -qec "'$planbook' labels sealed128" /dev/null >err 2>&1 </dev/null

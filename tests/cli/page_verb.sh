@@ -34,8 +34,8 @@ pages_are() {
     rm -f page.*
     sheets=$(pages_of "$2")
     sheet=0
-    while [ $sheet -lt $sheets ] && "$planbook" page --sheet $sheet "$3" 2>err | cmp -s - \
-        page.$sheet; do
+    while [ $sheet -lt $sheets ] &&
+        "$planbook" page --sheet $sheet "$3" 2>err | cmp -s - page.$sheet; do
         sheet=$((sheet + 1))
     done
     holds "$1: sheet $sheet of $sheets: $(cat err)" [ $sheet -eq $sheets ]
@@ -127,7 +127,7 @@ test_sheets() {
         "planbook: standard input has 3 sheets, counted from 0: there is no sheet 3 [check 13]" \
         page --sheet 3
     same out empty
-    # where the number is a trial's, its sheet is told; 4294967337 is 2^32 + 41
+    # where the number is a trial's, its sheet is said; 4294967337 is 2^32 + 41
     no_sheet "3 sheets, counted from 0: there is no sheet 41; trial 41 is sheet 1" 41 three
     no_sheet "3 sheets, counted from 0: there is no sheet 4294967295; trial 4294967295 is sheet 2" \
         4294967295 three
@@ -155,8 +155,8 @@ test_bad_sheets() {
     done
     for sheet in 18446744073709551616 99999999999999999999999999 "1
 "; do
-        expect_exactly 2 "planbook: --sheet takes a number: $not_shown" page --sheet "$sheet" \
-            three x
+        expect_exactly 2 "planbook: --sheet takes a number: $not_shown" \
+            page --sheet "$sheet" three x
         holds "nothing is made of --sheet $sheet" [ ! -e x ]
     done
     # what is wrong with the arguments is said before anything is read
@@ -179,8 +179,8 @@ test_page_refusals() {
         done
         printf '\002\001\000\000' >odd
         expect_exactly 1 \
-            "planbook: odd is no clear plan book: it does not begin with 01 00 [check 6]" $page \
-            odd x
+            "planbook: odd is no clear plan book: it does not begin with 01 00 [check 6]" \
+            $page odd x
         expect_exactly 1 "planbook: empty has 0 bytes, and a plan book has at least 4 [check 5]" \
             $page empty x
         # cut in the head, the contents and the records
@@ -199,10 +199,10 @@ test_page_refusals() {
         expect_exactly 1 "$said are not zero [check 11]" $page damaged x
         holds "no page of a refused book" [ ! -e x ]
     done
-    # opened under a wrong key: nothing comes through the pipe
+    # opened under a wrong key: the pipe is empty
     "$planbook" open --key key192 sealed128 2>/dev/null | "$planbook" page >out 2>err
-    judge "the page of a book that does not open" 1 \
-        "standard input has 0 bytes, and a plan book has at least 4 [check 5]" $?
+    judge "the page of a book that does not open" \
+        1 "standard input has 0 bytes, and a plan book has at least 4 [check 5]" $?
     same out empty
 }
 
@@ -210,8 +210,8 @@ test_page_files() {
     page_samples
     # an existing file is kept without --force, and with it too where the page is refused
     cp precious old
-    expect_exactly 2 "planbook: old exists: name another output, or replace it with --force" page \
-        three old
+    expect_exactly 2 "planbook: old exists: name another output, or replace it with --force" \
+        page three old
     expect 1 "[check 13]" page --force --sheet 3 three old
     expect 1 "[check 6]" page --force sealed128 old
     same old precious
@@ -223,8 +223,8 @@ test_page_files() {
     mode_is 600 new
     same new three0
     chmod 644 old
-    expect_exactly 0 "planbook: warning: old keeps its mode 644, so others may read it" page \
-        --force three old
+    expect_exactly 0 "planbook: warning: old keeps its mode 644, so others may read it" \
+        page --force three old
     mode_is 644 old
     same old three0
     # an output that is the input, whatever its name

@@ -38,8 +38,8 @@ test_spreadsheets() {
     expect 0 "" pack --force --trials odd-trials.csv plan.csv book
     same book clear
     echo $header >in
-    expect_exactly 0 "planbook: warning: standard input has a header and no plots" pack --force - \
-        book
+    expect_exactly 0 "planbook: warning: standard input has a header and no plots" \
+        pack --force - book
     unhex 01000000 >none
     same book none
     # columns that are not used
@@ -118,9 +118,9 @@ test_bad_lines() {
     bad_plan 2 "damaged.csv, line 3: the line is empty" $good '' 41,7,2,12,4
     bad_plan 2 "damaged.csv, line 3: the line is empty" $good ,,,, '' 41,7,2,12,4
     { echo $header; printf '41,7,2,12,3\0\n'; } >damaged.csv
-    expect_nothing x 2 "damaged.csv, line 2: the column $not_shown is not a number" pack \
-        damaged.csv x
-    # every bad line is told, whatever is wrong with it, and the status is that of the form
+    expect_nothing x 2 "damaged.csv, line 2: the column $not_shown is not a number" \
+        pack damaged.csv x
+    # every bad line is reported, whatever is wrong with it, and the status is that of the form
     printf '%s\n' $header 41,7,5,12,9 41,7,2,12 $good x,7,2,12,4 41,0,2,12,5 >damaged.csv
     expect_exactly 2 "planbook: damaged.csv, line 2: $replicate_5
 planbook: damaged.csv, line 3: the line has 4 fields instead of 5
@@ -136,7 +136,7 @@ planbook: damaged.csv, line 6: entry 0, but entries begin at 1 [check 11]" check
     holds "twenty messages" [ "$(wc -l <err)" -eq 20 ]
     { echo $header; seq -f '41,0,1,1,%.0f' 1 1021; } >damaged.csv
     expect 1 "planbook: and 1,001 more faults" check damaged.csv
-    holds "twenty messages and a word about the rest" [ "$(wc -l <err)" -eq 21 ]
+    holds "twenty messages and the number of the rest" [ "$(wc -l <err)" -eq 21 ]
     test_headers
 }
 
@@ -145,8 +145,8 @@ test_headers() {
     expect_exactly 2 "planbook: trials.csv, line 1: $bad" pack trials.csv x
     printf '41,7,2,12,3\n' >damaged.csv
     expect_nothing x 2 \
-        'damaged.csv, line 1: there is no column "trial" in the header; the columns are' pack \
-        damaged.csv x
+        'damaged.csv, line 1: there is no column "trial" in the header; the columns are' \
+        pack damaged.csv x
     printf '%s,row \n%s,1\n' $header $good >damaged.csv
     expect_nothing x 2 'damaged.csv, line 1: there is more than one column "row"' pack damaged.csv x
     printf '"trial,entry\n' >damaged.csv
@@ -155,27 +155,29 @@ test_headers() {
     expect_nothing x 2 'damaged.csv, line 1: there are more than 256 columns' pack damaged.csv x
     printf '\377\376t\0r\0' >damaged.csv
     expect_nothing x 2 'damaged.csv is UTF-16 text: save it as CSV in UTF-8' pack damaged.csv x
-    expect_nothing x 2 'damaged.csv is UTF-16 text: save it as CSV in UTF-8' seal --key key128 \
-        damaged.csv x
+    expect_nothing x 2 'damaged.csv is UTF-16 text: save it as CSV in UTF-8' \
+        seal --key key128 damaged.csv x
     printf '\376\377\0t\0r' >damaged.csv
-    expect_nothing x 2 'damaged.csv is UTF-16 text: save it as CSV in UTF-8' seal --key key128 \
-        damaged.csv x
+    expect_nothing x 2 'damaged.csv is UTF-16 text: save it as CSV in UTF-8' \
+        seal --key key128 damaged.csv x
     expect_nothing x 2 "empty, line 1: the file is empty" pack empty x
     expect_nothing x 2 "clear is a clear book, and a plan (CSV) is needed here" pack clear x
-    expect_nothing x 2 "sealed128 is a sealed book, and a plan (CSV) is needed here" pack \
-        sealed128 x
+    expect_nothing x 2 "sealed128 is a sealed book, and a plan (CSV) is needed here" \
+        pack sealed128 x
     expect_nothing x 2 "clear is a clear book" pack --trials clear plan.csv x
     expect_nothing x 2 "/dev/zero: too long for a plan, above 1,048,576 bytes" pack /dev/zero x
     yes 41,7,2,12,3 | head -c 1048577 >long.csv
-    expect_nothing x 2 "long.csv: too long for a plan, above 1,048,576 bytes" seal --key key128 \
-        long.csv x
+    expect_nothing x 2 "long.csv: too long for a plan, above 1,048,576 bytes" \
+        seal --key key128 long.csv x
     expect_nothing x 2 "cannot open missing" pack --trials missing plan.csv x
     rm -f long.csv
 }
 
 # plots TRIAL COUNT: as many lines, each on a plot of its own, 500 of them to a row.
-plots() { seq 0 $(($2 - 1)) | awk -v trial="$1" \
-    '{ printf "%s,7,1,%d,%d\n", trial, $1 / 500 + 1, $1 % 500 + 1 }'; }
+plots() {
+    seq 0 $(($2 - 1)) |
+        awk -v trial="$1" '{ printf "%s,7,1,%d,%d\n", trial, $1 / 500 + 1, $1 % 500 + 1 }'
+}
 
 # Limits of a book, and plots that two records share.
 test_limits() {
@@ -216,6 +218,6 @@ test_limits() {
     same out wanted
     { echo $header; yes $good | head -n 30; } >damaged.csv
     expect 0 "planbook: warning: and 9 more warnings" check damaged.csv
-    holds "twenty warnings and a word about the rest" [ "$(wc -l <err)" -eq 21 ]
+    holds "twenty warnings and the number of the rest" [ "$(wc -l <err)" -eq 21 ]
     rm -f x
 }

@@ -43,8 +43,8 @@ bad_plot() {
         holds "$line makes nothing of plot $1,$2" [ ! -e x ]
     done
     for line in "open --way 1" "open --way 2" "open --way 3" "open --csv" show; do
-        expect_exactly 1 "planbook: plot.sealed $not_opened [check 11]" $line --key key128 \
-            plot.sealed x
+        expect_exactly 1 "planbook: plot.sealed $not_opened [check 11]" \
+            $line --key key128 plot.sealed x
         holds "$line makes nothing of plot $1,$2" [ ! -e x ]
     done
     expect_nothing x 1 "plot.sealed $not_opened [check 11]" find --key key128 plot.sealed $cipher128
@@ -78,7 +78,7 @@ test_plots() {
     expect 0 "" show plot.sealed
 }
 
-# Plots in reserve: told by check, in words by show and find, as zeros in plans, and never called
+# Plots in reserve: counted by check, in words by show and find, as zeros in plans, and never called
 # shared.
 test_reserve() {
     printf '%s\n' $header $good 41,8,1,0,0 41,9,1,999,999 41,8,2,0,0 42,1,1,0,0 >spare.csv
@@ -117,8 +117,8 @@ END
     same out wanted
     expect 0 "" show --json book
     holds "two records of five have a place, in JSON" [ "$(grep -c '"reserve": false}' out)" -eq 2 ]
-    holds "the others are in reserve" [ "$(grep -c '"row": 0, "column": 0, "reserve": true}' out)" \
-        -eq 3 ]
+    holds "the others are in reserve" \
+        [ "$(grep -c '"row": 0, "column": 0, "reserve": true}' out)" -eq 3 ]
     rm -f book s
     test_shared_with_reserve
 }

@@ -5,7 +5,7 @@
 # These are many runs, so the command is the unsanitized one. SECRETS is the number of digests that
 # keys are drawn from (default 1).
 
-# with_secret FILE ARGUMENTS..: runs the command, where @ stands for the file, and adds its messages
+# with_secret FILE ARGUMENTS..: runs the command, where @ means the file, and adds its messages
 # to the file messages.
 with_secret() {
     secret_file=$1
@@ -25,22 +25,18 @@ with_secret() {
 # Every verb, with the file for each of its inputs.
 give_file() {
     for line in "check @" "check --trials @ plan.csv" "check --trials trials.csv @" \
-        "seal --key key128 @ x" \
-        "seal --key @ clear x" "seal --key-hex @ clear x" "seal --key @ @ x" \
-        "seal --key-hex @ @ x" \
-        "seal --key key128 --trials @ plan.csv x" "seal --key key128 --trials trials.csv @ x" \
-        "seal --key @ --trials @ plan.csv x" "seal --key key128 --way @ clear x" \
-        "open --key key128 @ x" \
+        "seal --key key128 @ x" "seal --key @ clear x" "seal --key-hex @ clear x" \
+        "seal --key @ @ x" "seal --key-hex @ @ x" "seal --key key128 --trials @ plan.csv x" \
+        "seal --key key128 --trials trials.csv @ x" "seal --key @ --trials @ plan.csv x" \
+        "seal --key key128 --way @ clear x" "open --key key128 @ x" \
         "open --key key128 --trials y @ x.csv" "open --key @ sealed128 x" \
-        "open --key-hex @ sealed128 x" "show @" \
-        "show --json @" "show --key key128 @" "show --key @ sealed128" \
-        "show --key-hex @ sealed128" "labels @" \
-        "labels --json @" "find --key key128 @ 41 0" "find --key @ sealed128 41 0" \
-        "find --key-hex @ sealed128 41 0" \
+        "open --key-hex @ sealed128 x" "show @" "show --json @" "show --key key128 @" \
+        "show --key @ sealed128" "show --key-hex @ sealed128" "labels @" "labels --json @" \
+        "find --key key128 @ 41 0" "find --key @ sealed128 41 0" "find --key-hex @ sealed128 41 0" \
         "pack @ x" "pack --trials @ plan.csv x" "unpack @ x" "unpack --trials y @ x" "page @ x" \
-        "page --sheet 1 @" \
-        "note --key key128 --counter $counter @ x" "note --key @ --counter $counter note x" \
-        "note --key-hex @ --counter $counter note x" "keygen @" "seal --key key128 clear @"; do
+        "page --sheet 1 @" "note --key key128 --counter $counter @ x" \
+        "note --key @ --counter $counter note x" "note --key-hex @ --counter $counter note x" \
+        "keygen @" "seal --key key128 clear @"; do
         # shellcheck disable=SC2086
         with_secret "$1" $line
     done
@@ -50,17 +46,13 @@ give_file() {
 # folder is missing.
 give_text() {
     for line in "@" "help @" "help @ x" "help seal @" "--version @" "check @" "check plan.csv @" \
-        "check --trials @ plan.csv" \
-        "seal --key @ clear x" "seal --key-hex @ clear x" "seal --key key128 @ x" \
-        "seal --key key128 clear x @" \
-        "seal --key key128 --way @ clear x" "open --key @ sealed128 x" \
-        "open --key-hex @ sealed128 x" "open --key key128 @ x" \
-        "show @" "show --key @ sealed128" "labels @" "find --key key128 sealed128 @" \
-        "find --key key128 sealed128 @ 0" \
-        "find --key key128 sealed128 41 @" "find --key key128 @ 41 0" "pack @ x" "unpack @ x" \
-        "page @ x" \
-        "page --sheet @ clear x" "note --key key128 --counter @ note x" \
-        "note --key @ --counter $counter note x" \
+        "check --trials @ plan.csv" "seal --key @ clear x" "seal --key-hex @ clear x" \
+        "seal --key key128 @ x" "seal --key key128 clear x @" "seal --key key128 --way @ clear x" \
+        "open --key @ sealed128 x" "open --key-hex @ sealed128 x" "open --key key128 @ x" "show @" \
+        "show --key @ sealed128" "labels @" "find --key key128 sealed128 @" \
+        "find --key key128 sealed128 @ 0" "find --key key128 sealed128 41 @" \
+        "find --key key128 @ 41 0" "pack @ x" "unpack @ x" "page @ x" "page --sheet @ clear x" \
+        "note --key key128 --counter @ note x" "note --key @ --counter $counter note x" \
         "note --key-hex @ --counter $counter note x" "note --key key128 --counter $counter @ x" \
         "keygen --bits @ x"; do
         # shellcheck disable=SC2086
@@ -81,15 +73,14 @@ give_text() {
 # Files that are a plan or a file of trials, but for one place where the text is.
 give_in_csv() {
     for header_and_line in "$header,$1/$good,1" "$header/41,$1,2,12,3" "$header/$1,7,2,12,3" \
-        "$header/41,7,2,12,$1" \
-        "$1,$header/1,$good" "$1/$good"; do
+        "$header/41,7,2,12,$1" "$1,$header/1,$good" "$1/$good"; do
         printf '%s\n%s\n' "${header_and_line%%/*}" "${header_and_line#*/}" >secret.csv
         with_secret secret.csv check @
         with_secret secret.csv seal --key key128 @ x
     done
     for header_and_line in "trial,start_block/41,$1" "trial,start_block/41,${1}0" \
-        "trial,start_block/41,0x$1" "trial,$1/41,0" \
-        "trial,replicates/41,$1" "trial,replicates/$1,0" "replicates,$1/0,41"; do
+        "trial,start_block/41,0x$1" "trial,$1/41,0" "trial,replicates/41,$1" \
+        "trial,replicates/$1,0" "replicates,$1/0,41"; do
         printf '%s\n%s\n' "${header_and_line%%/*}" "${header_and_line#*/}" >secret.csv
         with_secret secret.csv check --trials @ plan.csv
         with_secret secret.csv pack --trials @ plan.csv x
@@ -155,9 +146,8 @@ test_secrets() {
     # keys that are text, that have quotes and line feeds, or that begin like a book, with the mark
     # of UTF-8 or of UTF-16
     for secret in 4b71372c78503b6d5a32774c39745276 7c41427e227820792c5a0a4b4c4d4e4f \
-        22efcd0a41b35c6d7e8f90a1b2c3d4e5 \
-        0100000129ab54cd31e07b66f51a9302 02000001c8d19e3b7a60254f8819e2d3 \
-        0100004271c3a5950d2be8f64497d16e08bc35fa91270e5c \
+        22efcd0a41b35c6d7e8f90a1b2c3d4e5 0100000129ab54cd31e07b66f51a9302 \
+        02000001c8d19e3b7a60254f8819e2d3 0100004271c3a5950d2be8f64497d16e08bc35fa91270e5c \
         fffe4100b342c70068d15500a94ee300 efbbbf5d7e40238d5b2f7c21265e3f3a; do
         not_shown_anywhere raw $secret
     done

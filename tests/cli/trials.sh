@@ -28,17 +28,17 @@ test_trials() {
 planbook: damaged-plan.csv, line 3: trial 42 has no line in trials.csv" \
         pack --trials trials.csv damaged-plan.csv x
     plan_of
-    expect_nothing x 2 "trials.csv, line 2: trial 41 has no line in damaged-plan.csv" pack \
-        --trials trials.csv damaged-plan.csv x
+    expect_nothing x 2 "trials.csv, line 2: trial 41 has no line in damaged-plan.csv" \
+        pack --trials trials.csv damaged-plan.csv x
     bad_trials 2 "damaged.csv, line 3: trial 41 is in line 2 already" $both 41,$start 41,$cipher128
-    bad_trials 2 "damaged.csv, line 2: trial 40 has no line in plan.csv" $both 40,$start \
-        41,$cipher128
-    bad_trials 2 "damaged.csv, line 3: trial 43 has no line in plan.csv" $both 41,$start \
-        43,$cipher128
+    bad_trials 2 "damaged.csv, line 2: trial 40 has no line in plan.csv" \
+        $both 40,$start 41,$cipher128
+    bad_trials 2 "damaged.csv, line 3: trial 43 has no line in plan.csv" \
+        $both 41,$start 43,$cipher128
     bad_trials 2 "plan.csv, line 2: trial 41 has no line in damaged.csv" $both
     bad_trials 2 "damaged.csv, line 2: the line has 1 fields instead of 2" $both 41
-    bad_trials 2 'damaged.csv, line 2: the trial "x" is not a number from 0 to 4294967295' $both \
-        x,$start
+    bad_trials 2 'damaged.csv, line 2: the trial "x" is not a number from 0 to 4294967295' \
+        $both x,$start
     # the columns that may be absent, and names that are nearly theirs
     said='damaged.csv, line 1: there is no column "trial" in the header; the columns are'
     bad_trials 2 "$said trial,start_block,replicates" replicates 8
@@ -56,8 +56,8 @@ planbook: damaged-plan.csv, line 3: trial 42 has no line in trials.csv" \
     printf ' Trial ,replicates \n41,8\n' >odd.csv
     expect 0 "" check --trials odd.csv plan.csv
     printf 'trial,remark,replicates\n41,seedlings,0\n' >odd.csv
-    expect_exactly 0 'planbook: warning: odd.csv, line 1: the column "remark" is not used' check \
-        --trials odd.csv plan.csv
+    expect_exactly 0 'planbook: warning: odd.csv, line 1: the column "remark" is not used' \
+        check --trials odd.csv plan.csv
     printf 'trial,rep\n41,8\n' >odd.csv
     expect 0 'the column "rep" is not used' check --trials odd.csv plan.csv
     expect_nothing x 2 'the column "replicate" is not known' pack --trials plan.csv plan.csv x
@@ -69,8 +69,8 @@ planbook: damaged-plan.csv, line 3: trial 42 has no line in trials.csv" \
         "planbook: --trials goes with a plan: name an output that ends in .csv, or give --csv" \
         open --key key128 --trials y sealed128 x
     expect_nothing y 2 "show has no option --trials" show --trials y clear
-    expect_nothing x 2 "plan and trials cannot both go to standard output" open --csv --key key128 \
-        --trials - sealed128
+    expect_nothing x 2 "plan and trials cannot both go to standard output" \
+        open --csv --key key128 --trials - sealed128
     expect 0 "" open --csv --key key128 --trials - sealed128 x
     same out trials.csv
     same x plan.csv
@@ -111,14 +111,14 @@ test_start_blocks() {
     unused="planbook: warning: damaged.csv: the start blocks are not used, since seal draws new"
     unused="$unused ones each time; pack uses them"
     expect_exactly 0 "$unused" seal --key key128 --trials damaged.csv three.csv x
-    holds "seal draws start blocks" [ "$("$planbook" show x | grep -ce $start -e $cipher128)" -eq \
-        0 ]
+    holds "seal draws start blocks" \
+        [ "$("$planbook" show x | grep -ce $start -e $cipher128)" -eq 0 ]
     rm -f x
     printf 'trial\n41\n' >odd.csv
     with_fault count seal --key key128 --trials odd.csv plan.csv x
     judge "seal with a file of trials without start blocks" 0 "" $?
-    holds "the start block is what the system gave" [ \
-        "$("$planbook" show x | grep -c 0102030405060708090a0b0c0d0e0f10)" -eq 1 ]
+    holds "the start block is what the system gave" \
+        [ "$("$planbook" show x | grep -c 0102030405060708090a0b0c0d0e0f10)" -eq 1 ]
     # a clear book that another program made is sealed, with a warning
     unhex 01000002 0000002900010000$zeros 0000002a00010000$zeros $record \
         0000002a0000000702000c0003000000 >weak
@@ -137,7 +137,7 @@ planbook: warning: weak: the start block of trial 42 is all zeros; pack draws go
 numbered() { unhex 01000001 000000290001${1}00$start $record; }
 
 test_replicates() {
-    # every number that there is, packed, shown and unpacked as it stands: 0 and 4 are told apart
+    # every number that there is, packed, shown and unpacked as written: 0 and 4 are not the same
     for number in 0 2 3 4 5 6 7 8; do
         numbered 0$number >wanted
         printf 'trial,start_block,replicates\n41,%s,%s\n' $start $number >numbers.csv
@@ -156,8 +156,8 @@ test_replicates() {
     done
     numbered 04 >book
     expect 0 "" show --json book
-    holds "a number that was chosen, in JSON" grep -qF \
-        '"replicates": 4, "replicates_by_default": false' out
+    holds "a number that was chosen, in JSON" \
+        grep -qF '"replicates": 4, "replicates_by_default": false' out
     # the plan alone does not say the number
     lost="a plan does not say the number of replicates, which 1 of 1 trials have chosen"
     lost="$lost; --trials writes a file that does"
@@ -170,8 +170,8 @@ test_replicates() {
     # eight replicates, sealed and opened in one step, without start blocks
     { echo $header; seq -f '41,7,%.0f,12,1' 1 8; echo 42,7,4,1,1; } >seedlings.csv
     printf 'trial,replicates\n42,0\n41,8\n' >numbers.csv
-    expect 0 "planbook: warning: seedlings.csv, line 3" seal --key key128 --trials numbers.csv \
-        seedlings.csv s
+    expect 0 "planbook: warning: seedlings.csv, line 3" \
+        seal --key key128 --trials numbers.csv seedlings.csv s
     expect 0 "" open --key key128 --trials y.csv s x.csv
     same x.csv seedlings.csv
     cut -d , -f 1,3 y.csv >got
@@ -195,7 +195,7 @@ planbook: damaged-plan.csv, line 5: replicate 4, but trial 42 has 3 [check 11]" 
         said="damaged.csv, line 2: the number of replicates \"$number\" is not a number from 0 to 8"
         bad_trials 2 "$said" trial,replicates "41,$number"
     done
-    # all of them are told, and no record is blamed for them
+    # all of them are reported, and no record is reported for them
     printf 'trial,start_block,replicates\n41,4g,9\n42,%s,x\n' $start >damaged.csv
     plan_of 41,7,5,12,1 42,7,9,1,1
     expect_exactly 2 \
@@ -230,33 +230,33 @@ is_refused_since() {
         holds "$line makes no trials of $1" [ ! -e y ]
     done
     for line in "open --way 1" "open --way 2" "open --way 3" "open --csv --trials y" show; do
-        expect_exactly 1 "planbook: $1/sealed.book $not_opened [check 11]" $line --key-hex \
-            past.hex "$1/sealed.book" x
+        expect_exactly 1 "planbook: $1/sealed.book $not_opened [check 11]" \
+            $line --key-hex past.hex "$1/sealed.book" x
         holds "$line makes nothing of $1" [ ! -e x ]
         holds "$line makes no trials of $1" [ ! -e y ]
     done
-    expect_nothing x 1 "$1/sealed.book $not_opened [check 11]" find --key-hex past.hex \
-        "$1/sealed.book" "$2" "$3"
+    expect_nothing x 1 "$1/sealed.book $not_opened [check 11]" \
+        find --key-hex past.hex "$1/sealed.book" "$2" "$3"
 }
 
 # is_mended FOLDER LINE OLD NEW: its plan names the line; mended, it is sealed anew, and opens. No
 # label stays what it was.
 is_mended() {
-    expect_exactly 1 "planbook: $1/plan.csv, line $2 [check 11]" check --trials "$1/trials.csv" \
-        "$1/plan.csv"
+    expect_exactly 1 "planbook: $1/plan.csv, line $2 [check 11]" \
+        check --trials "$1/trials.csv" "$1/plan.csv"
     sed "s/,$3\$/,$4/" "$1/plan.csv" >mended.csv
-    holds "the plan of $1 has one bad plot" [ "$(diff "$1/plan.csv" mended.csv | grep -c '^>')" \
-        -eq 1 ]
-    expect 0 "the start blocks are not used" seal --key-hex past.hex --trials "$1/trials.csv" \
-        mended.csv x
+    holds "the plan of $1 has one bad plot" \
+        [ "$(diff "$1/plan.csv" mended.csv | grep -c '^>')" -eq 1 ]
+    expect 0 "the start blocks are not used" \
+        seal --key-hex past.hex --trials "$1/trials.csv" mended.csv x
     expect 0 "" open --key-hex past.hex --trials y.csv x x.csv
     same x.csv mended.csv
-    holds "the trials of $1 keep their numbers" [ "$(cut -d , -f 1,3 y.csv)" = \
-        "$(cut -d , -f 1,3 "$1/trials.csv")" ]
+    holds "the trials of $1 keep their numbers" \
+        [ "$(cut -d , -f 1,3 y.csv)" = "$(cut -d , -f 1,3 "$1/trials.csv")" ]
     "$planbook" labels "$1/sealed.book" | sort >labels-then
     "$planbook" labels x | sort >labels-now
-    holds "the labels of $1 are still printed" [ "$(wc -l <labels-then)" -eq \
-        $(($(wc -l <"$1/plan.csv") - 1)) ]
+    holds "the labels of $1 are still printed" \
+        [ "$(wc -l <labels-then)" -eq $(($(wc -l <"$1/plan.csv") - 1)) ]
     holds "the labels of $1 are others now" [ -z "$(comm -12 labels-then labels-now)" ]
     rm -f x y.csv x.csv mended.csv labels-then labels-now
 }
@@ -277,8 +277,8 @@ test_past_seasons() {
     expect 0 "" pack --force --trials y.csv x.csv book
     same book "$past/clear.book"
     expect 0 "" show "$past/sealed.book"
-    holds "every trial of a past season has four replicates, by default" [ \
-        "$(grep -c ' 4 (default) ' out)" -eq 3 ]
+    holds "every trial of a past season has four replicates, by default" \
+        [ "$(grep -c ' 4 (default) ' out)" -eq 3 ]
     rm -f book x.csv y.csv
     test_past_plots
     rm -f past.hex

@@ -57,8 +57,8 @@ test_one_step() {
     expect 0 "" seal --key key192 - t
     expect 0 "" open --csv --key key192 t
     same out plan.csv
-    holds "each sealing draws new start blocks" [ "$("$planbook" show s | sed -n 4p)" != \
-        "$("$planbook" show t | sed -n 4p)" ]
+    holds "each sealing draws new start blocks" \
+        [ "$("$planbook" show s | sed -n 4p)" != "$("$planbook" show t | sed -n 4p)" ]
     expect 0 "" seal --key key192 --trials "$here/examples/trials.csv" "$here/examples/plan.csv" u
     expect 0 "" open --key key192 --trials t.csv u back.csv --force
     same back.csv "$here/examples/plan.csv"
@@ -66,7 +66,7 @@ test_one_step() {
     same got "$here/examples/trials.csv"
     mkdir "a folder"
     cp plan.csv "a folder/the plan.csv"
-    (cd "a folder" && "$planbook" seal --key ../key192 "the plan.csv" "../a folder/the book" && \
+    (cd "a folder" && "$planbook" seal --key ../key192 "the plan.csv" "../a folder/the book" &&
         "$planbook" open --csv --key ../key192 "the book") >out 2>err
     judge "names with spaces, from another folder" 0 "" $?
     same out plan.csv
@@ -197,8 +197,8 @@ test_find() {
     done
     expect_exactly 1 "planbook: s has no record with this label" find --key key128 s $cipher192
     expect_exactly 1 "planbook: s has no trial 42" find --key key128 s 42 0
-    expect_exactly 1 "planbook: trial 41 of s has the places 0 to 1, and not 2" find --key key128 \
-        s 41 2
+    expect_exactly 1 "planbook: trial 41 of s has the places 0 to 1, and not 2" \
+        find --key key128 s 41 2
     bad="planbook: the label is not 32 hexadecimal digits"
     expect_exactly 2 "$bad: there are 2" find --key key128 s 41
     expect_exactly 2 "$bad: there are 33" find --key key128 s ${cipher128}0
@@ -298,8 +298,8 @@ test_pack_and_unpack() {
     holds "no book without random bytes" [ ! -e x ]
     expect 0 "" pack plan.csv a
     expect 0 "" pack plan.csv b
-    holds "two books of one plan have other start blocks" [ "$("$planbook" show a | sed -n 4p)" != \
-        "$("$planbook" show b | sed -n 4p)" ]
+    holds "two books of one plan have other start blocks" \
+        [ "$("$planbook" show a | sed -n 4p)" != "$("$planbook" show b | sed -n 4p)" ]
     rm -f a b book p.csv s.csv
 }
 
@@ -310,20 +310,20 @@ random_book() {
         "$planbook" pack --trials mixed-trials.csv mixed.csv mixed 2>/dev/null && cmp mixed book &&
         for way in 1 2 3; do
             "$planbook" seal --key key --way $way --force book s && cmp s sealed &&
-                "$planbook" open --key key --way $way --force sealed opened && cmp opened book || \
+                "$planbook" open --key key --way $way --force sealed opened && cmp opened book ||
                     return 1
         done &&
         "$planbook" show book >out && cmp out show.txt &&
         "$planbook" show --json book >out && cmp out show.json &&
         "$planbook" show sealed >out && cmp out head.txt &&
         "$planbook" show --json sealed >out && cmp out head.json &&
-        "$planbook" show --key key sealed >out && sed '1s/, opened from a sealed one:/:/' out | \
+        "$planbook" show --key key sealed >out && sed '1s/, opened from a sealed one:/:/' out |
             cmp - show.txt &&
         "$planbook" labels sealed >out && cmp out labels.txt &&
         "$planbook" labels --json sealed >out && cmp out labels.json &&
         "$planbook" open --csv --key key sealed >out && cmp out plan.csv &&
-        "$planbook" open --key key --trials t.csv sealed q.csv && cmp q.csv plan.csv && cmp t.csv \
-            trials.csv || return 1
+        "$planbook" open --key key --trials t.csv sealed q.csv &&
+        cmp q.csv plan.csv && cmp t.csv trials.csv || return 1
     while read -r label trial place rest; do
         for asked in "$label" "$trial $place"; do
             # shellcheck disable=SC2086

@@ -22,8 +22,8 @@ page_text=34312020202020202020202037203220203132202020330a # the page's line fro
 
 hex_of() { printf %s "$1" | od -An -v -tx1 | tr -d ' \n'; }
 
-# words_of BITS: what to look for of a key's words: as they are lent, and in the order of bytes that
-# the processor has.
+# words_of BITS: what to look for of a key's words: as they are given to the calls, and in the order
+# of bytes that the processor has.
 words_of() {
     eval "set -- \$round_keys$1"
     echo "$1,$2,$(echo "$1,$2" | sed 's/\(..\)\(..\)\(..\)\(..\)/\4\3\2\1/g')"
@@ -38,9 +38,8 @@ nothing_left() {
     # the search for functions at their first call would overwrite parts of the stack
     export LD_BIND_NOW=1
     with_fault "${when:-scan},count" "$@"
-    judge "$what after planbook $*" "$wanted" "nothing left behind" $?
-    ! grep -q '^left behind' "$work/err" || bad \
-        "$what after planbook $*: in one of several searches"
+    judge "$what after planbook $*" "$wanted" "nothing was left" $?
+    ! grep -q '^left' "$work/err" || bad "$what after planbook $*: in one of several searches"
     unset SCAN LD_BIND_NOW
     rm -f x y x.csv
 }
@@ -61,8 +60,7 @@ test_wiped_memory() {
         done
     done
     for verb in "pack plan.csv x" "unpack --trials y clear x" "unpack clear" \
-        "seal --key key128 plan.csv x" "check plan.csv" \
-        "open --key key128 sealed128 x.csv"; do
+        "seal --key key128 plan.csv x" "check plan.csv" "open --key key128 sealed128 x.csv"; do
         nothing_left "the plan's line" 0 $line_text $verb
         nothing_left "the clear record" 0 $record $verb
         nothing_left "the clear record's numbers" 0 $numbers $verb
@@ -80,10 +78,10 @@ test_wiped_memory() {
     yes "$note_text" | head -c 16384 >long
     "$planbook" note --key key128 --counter $counter long long128
     for name in long long128; do
-        nothing_left "the key's words" 0 "$(words_of 128)" note --key key128 --counter $counter \
-            $name
-        nothing_left "the text of the note" 0 "$(hex_of "$note_text")" note --key key128 --counter \
-            $counter $name x
+        nothing_left "the key's words" \
+            0 "$(words_of 128)" note --key key128 --counter $counter $name
+        nothing_left "the text of the note" \
+            0 "$(hex_of "$note_text")" note --key key128 --counter $counter $name x
     done
     # whatever else was on the stack
     mark=a5a4a3a2a1a09f9e9d9c9b9a99989796
@@ -100,8 +98,8 @@ test_wiped_memory() {
         nothing_left "a mark on the stack, while the output is written," 0 $mark $verb
     done
     when=early-scan,malloc-mark:53
-    nothing_left "a mark on the stack, while the output is written," 0 $mark note --key key128 \
-        --counter $counter note x
+    nothing_left "a mark on the stack, while the output is written," \
+        0 $mark note --key key128 --counter $counter note x
     # the key is gone as soon as its words are there, which is before the output's memory is asked
     # for; the words of key128 begin with it
     for bits in 192 256; do
@@ -112,8 +110,8 @@ test_wiped_memory() {
             nothing_left "the key, before a book is sealed or opened," 0 $key $verb
         done
         when=malloc-scan:53
-        nothing_left "the key, before a note is sealed," 0 $key note --key key$bits --counter \
-            $counter note x
+        nothing_left "the key, before a note is sealed," \
+            0 $key note --key key$bits --counter $counter note x
     done
     when=malloc-scan:44,early-mark
     nothing_left "a mark on the stack, before the book is sealed," 0 $mark seal --key key128 clear x
@@ -122,14 +120,14 @@ test_wiped_memory() {
     for bits in 128 192 256; do
         eval "key=\$key$bits"
         for verb in "seal --key key$bits clear x" "seal --key key$bits plan.csv x" \
-            "open --key key$bits sealed$bits x" \
-            "show --key key$bits sealed$bits x" "note --key key$bits --counter $counter note x"; do
+            "open --key key$bits sealed$bits x" "show --key key$bits sealed$bits x" \
+            "note --key key$bits --counter $counter note x"; do
             nothing_left "the key, while the output is written," 0 $key $verb
             nothing_left "the key's words, while the output is written," 0 "$(words_of $bits)" $verb
         done
     done
-    nothing_left "the text, while the sealed note is written," 0 "$(hex_of "$note_text")" note \
-        --key key128 --counter $counter long x
+    nothing_left "the text, while the sealed note is written," \
+        0 "$(hex_of "$note_text")" note --key key128 --counter $counter long x
     nothing_left "the clear record, while the page is written," 0 $record page clear x
     when=scan
     # the same where the command ends early
@@ -147,12 +145,12 @@ test_wiped_memory() {
     nothing_left "the plan's line" 2 $line_text seal --key key128 damaged.csv x
     nothing_left "the clear record's numbers" 2 $numbers check damaged.csv
     nothing_left "the key" 1 $key128 note --key key128 --counter $counter --way 4 note x
-    nothing_left "the text of the note" 2 "$(hex_of "$note_text")" note --key key128 --counter \
-        $counter long128 missing/x
+    nothing_left "the text of the note" \
+        2 "$(hex_of "$note_text")" note --key key128 --counter $counter long128 missing/x
     echo >>long
-    nothing_left "the text of the note" 1 "$(hex_of "$note_text")" note --key key128 --counter \
-        $counter long x
-    # and where it ends with the key or the words in its hands
+    nothing_left "the text of the note" \
+        1 "$(hex_of "$note_text")" note --key key128 --counter $counter long x
+    # and where it ends while it has the key or the words
     when=scan,no-memory:160
     nothing_left "the key" 2 $key128 seal --key key128 clear x
     holds "there was no memory for the words" grep -qx "planbook: no memory for 160 bytes" err
