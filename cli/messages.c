@@ -79,11 +79,13 @@ const char *shown(const char *argument)
 const char *shown_field(struct bytes field)
 {
     static char text[MOST_SHOWN + 8];
-    bool whole = field.len <= MOST_SHOWN;
+    size_t len = field.len <= MOST_SHOWN ? field.len : MOST_SHOWN;
     if (may_be_key(field))
         return not_shown;
-    snprintf(text, sizeof text, "\"%.*s%s\"", (int)(whole ? field.len : MOST_SHOWN),
-             (const char *)field.at, whole ? "" : "..");
+    while (len < field.len && (field.at[len] & 0xc0) == 0x80) /* within a character */
+        len--;
+    snprintf(text, sizeof text, "\"%.*s%s\"", (int)len, (const char *)field.at,
+             len < field.len ? ".." : "");
     return text;
 }
 

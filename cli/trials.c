@@ -61,8 +61,8 @@ static void report_repeated(const struct lines *lines)
     for (size_t i = 1; i < lines->count; i++) {
         const struct line *before = lines->sorted[i - 1], *line = lines->sorted[i];
         if (before->record.trial == line->record.trial)
-            report(PLANBOOK_ACCEPTED, "%s, line %zu: trial %u is in line %zu already",
-                   lines->name, line->line, (unsigned)line->record.trial, before->line);
+            report(PLANBOOK_ACCEPTED, "%s, line %zu: trial %u is in line %zu already", lines->name,
+                   line->line, (unsigned)line->record.trial, before->line);
     }
 }
 

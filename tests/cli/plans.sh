@@ -108,6 +108,8 @@ test_bad_lines() {
     letters=ghijklmnopqrstuvwxyzghijklmnopqrstuvwxyz
     bad_line 2 "the entry \"$letters\" is not a number from 0 to 4294967295" 41,$letters,2,12,3
     bad_line 2 "the entry \"$letters..\" is not a number from 0 to 4294967295" 41,${letters}x,2,12,3
+    bad_line 2 "the entry \"${letters%z}..\" is not a number from 0 to 4294967295" \
+        41,${letters%z}€,2,12,3
     bad_line 2 "the entry $not_shown is not a number from 0 to 4294967295" \
         "$(printf '41,\033[31m7,2,12,3')"
     bad_line 2 'the entry "süß" is not a number from 0 to 4294967295' 41,süß,2,12,3

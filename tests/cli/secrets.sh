@@ -37,7 +37,6 @@ give_file() {
         "page --sheet 1 @" "note --key key128 --counter $counter @ x" \
         "note --key @ --counter $counter note x" "note --key-hex @ --counter $counter note x" \
         "keygen @" "seal --key key128 clear @"; do
-        # shellcheck disable=SC2086
         with_secret "$1" $line
     done
 }
@@ -55,7 +54,6 @@ give_text() {
         "note --key key128 --counter @ note x" "note --key @ --counter $counter note x" \
         "note --key-hex @ --counter $counter note x" "note --key key128 --counter $counter @ x" \
         "keygen --bits @ x"; do
-        # shellcheck disable=SC2086
         with_secret "$1" $line
     done
     with_secret "--$1" seal --key key128 @ clear x

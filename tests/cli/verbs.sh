@@ -326,7 +326,6 @@ random_book() {
         cmp q.csv plan.csv && cmp t.csv trials.csv || return 1
     while read -r label trial place rest; do
         for asked in "$label" "$trial $place"; do
-            # shellcheck disable=SC2086
             found=$("$planbook" find --key key sealed $asked | tail -n 1 | tr -s ' ')
             [ "${found# }" = "$trial $place $rest" ] || return 1
         done
