@@ -12,6 +12,7 @@
 #include <stdio.h>
 #include <string.h>
 #include <sys/random.h>
+#include <unistd.h>
 
 int hex_digit(int c)
 {
@@ -62,6 +63,15 @@ static bool is_all_hex(struct bytes text)
     return text.len > 0;
 }
 
+/* The key may have been given in place of the name of its file. */
+static void expect_file(const char *option, const char *name)
+{
+    if (!is_standard(name) && shown(name) != name && access(name, F_OK) != 0)
+        fail("%s takes the name of the file that has the key; no file has the name that is given, "
+             "which is not shown, since it may be the key itself",
+             option);
+}
+
 /*
  * Raw bytes. A wrong length is left to the library, whose check 1 it is. A key file in hexadecimal
  * would pass for 32 raw bytes and seal a book that nobody else can open; a raw key looks like one
@@ -69,6 +79,7 @@ static bool is_all_hex(struct bytes text)
  */
 struct bytes read_key(const char *name)
 {
+    expect_file("--key", name);
     struct bytes key = read_secret_input(name, KEY_FILE_LIMIT);
     if (is_all_hex(key))
         fail("%s is all hexadecimal digits: take --key-hex for a key that is written so",
@@ -78,6 +89,7 @@ struct bytes read_key(const char *name)
 
 struct bytes read_hex_key(const char *name)
 {
+    expect_file("--key-hex", name);
     struct bytes text = read_secret_input(name, KEY_FILE_LIMIT);
     if (text.len > KEY_FILE_LIMIT)
         fail("the key in %s is more than %s bytes long, and a key has 32, 48 or 64 digits",

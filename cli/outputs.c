@@ -147,8 +147,8 @@ static void expect_two_files(const struct pending *x, const struct pending *y)
 {
     if (x->exists && y->exists ? same_file(&x->old, &y->old)
                                : same_new_file(x->output->name, y->output->name))
-        fail("%s and %s are one file, but each output needs a file of its own",
-             shown(x->output->name), shown(y->output->name));
+        fail("both outputs go to one file, %s: give each a file of its own",
+             shown(y->output->name));
 }
 
 static int make_temporary(struct pending *p)

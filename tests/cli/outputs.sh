@@ -39,15 +39,16 @@ test_existing_outputs() {
         expect 2 "cannot make $name: " seal --key key128 clear "$name"
     done
     # two outputs of one name, whether the file is there or not
-    one="are one file, but each output needs a file of its own"
+    one="both outputs go to one file"
+    own="give each a file of its own"
     ln -s . here
     for name in both ./both here/both "$PWD/both"; do
-        expect_nothing both 2 "both and $name $one" unpack --trials "$name" clear both
-        expect_nothing both 2 "both and $name $one" unpack --force --trials "$name" clear both
-        expect_nothing both.csv 2 "both.csv and $name.csv $one" \
+        expect_nothing both 2 "$one, $name: $own" unpack --trials "$name" clear both
+        expect_nothing both 2 "$one, $name: $own" unpack --force --trials "$name" clear both
+        expect_nothing both.csv 2 "$one, $name.csv: $own" \
             open --key key128 --trials "$name.csv" sealed128 both.csv
         cp precious both
-        expect 2 "both and $name $one" unpack --force --trials "$name" clear both
+        expect 2 "$one, $name: $own" unpack --force --trials "$name" clear both
         same both precious
         rm -f both
     done
@@ -57,7 +58,7 @@ test_existing_outputs() {
     same both plan.csv
     cp precious both
     ln both twin
-    expect 2 "both and twin $one" unpack --force --trials twin clear both
+    expect 2 "$one, twin: $own" unpack --force --trials twin clear both
     same both precious
     rm -f folder/both twin
     expect_nothing x 2 "cannot make missing/y" unpack --trials missing/y clear x

@@ -203,6 +203,16 @@ test_keys() {
         open --key-hex /dev/zero sealed128 x
     expect_nothing x 2 "cannot open missing: No such file" open --key missing sealed128 x
     expect_nothing x 2 "cannot read folder: Is a directory" open --key folder sealed128 x
+    # the key in place of the name of its file, and a file with such a name
+    said="takes the name of the file that has the key; no file has the name that is given, which is"
+    for option in --key --key-hex; do
+        expect_exactly 2 "planbook: $option $said not shown, since it may be the key itself" \
+            open $option $key128 sealed128 x
+    done
+    cp key128 $key128
+    expect 0 "" open --key $key128 sealed128
+    same out clear
+    rm -f $key128
     for way in 0 4 257 4294967297 18446744073709551615; do
         for line in "seal --key key128 clear" "note --key key128 --counter $counter note"; do
             expect_exactly 1 "planbook: --way $way: the ways are 1, 2 and 3 [check 2]" \
