@@ -87,8 +87,7 @@ static void expect_no_terminal(const char *output)
 {
     if (is_standard(output) && isatty(STDOUT_FILENO))
         fail("books, keys and notes may be any bytes, and do not go to a terminal: name an output "
-             "file, or send standard output "
-             "somewhere else");
+             "file, or send standard output somewhere else");
 }
 
 static enum existing given_force(const struct arguments *given)
