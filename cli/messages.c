@@ -10,7 +10,8 @@
  * - Of such a field, and of an argument of the command line, nothing is shown if it may be a key:
  *   if it has 16 hexadecimal digits in a row, which are half of the shortest key, or bytes that are
  *   no printable text, as raw keys have.
- * - Counter blocks, labels and start blocks are written like a key, and are never shown.
+ * - Counter blocks, labels and start blocks are written like a key, and are never shown. A number
+ *   that could be read as one is shown: it has at most 20 digits, and a key at least 32.
  *
  * What is not shown is described: by its file, line and column, or by what is wrong with it. Since
  * only printable text is shown, a message cannot move the cursor or pretend to be two.
