@@ -1,5 +1,5 @@
 # shellcheck shell=sh disable=SC2086,SC2154
-# (command lines are split into arguments; samples and helpers are those of tests/cli/run)
+# (command lines are split into arguments; samples and functions are those of tests/cli/run)
 #
 # Part of tests/cli/run: no message shows a key or a clear record, wherever it was given by mistake.
 # These are many runs, so the command is the unsanitized one. SECRETS is the number of digests that

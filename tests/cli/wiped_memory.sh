@@ -1,6 +1,6 @@
 # shellcheck shell=sh disable=SC2034,SC2086,SC2154
-# (eval reads the round keys; command lines are split into arguments; samples and helpers are those
-# of tests/cli/run)
+# (eval reads the round keys; command lines are split into arguments; samples and functions are
+# those of tests/cli/run)
 #
 # Part of tests/cli/run: no key, words of a key, clear record, line of a plan or a page, or text of
 # a note is left in memory when the command ends.
