@@ -31,6 +31,10 @@ static void leave(void)
 #undef exit
 #undef stderr
 
+#include "../../cli/library.h"
+#include "../../cli/plan.h"
+#include "../../cli/trials.h"
+
 int LLVMFuzzerTestOneInput(const uint8_t *data, size_t len);
 
 static struct bytes copy(const uint8_t *at, size_t len)
