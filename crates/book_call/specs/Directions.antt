@@ -1,4 +1,5 @@
--- What a call is given and what it writes, by the direction: a book to be decrypted has the first byte 2, one to be encrypted 1.
+-- What a call is given and what it writes, by the direction: a book to be decrypted has the first
+-- byte 2, one to be encrypted 1.
 use Prim.Native.Nat.{ℕ}
 use mathlib.Core.Bool.{Bool, not}
 use mathlib.Core.List.{List, []}

@@ -1,5 +1,6 @@
-// Plan books encrypted and decrypted under expanded words and lent tables; never under a key.
-// (Document 01's terms are sealing and opening a book; a clear book has the first byte 1, and an encrypted one 2.)
+// Plan books encrypted and decrypted under an expanded key; never under the key itself. (Document
+// 01's terms are sealing and opening a book; a clear book has the first byte 1, and an encrypted
+// one 2.)
 ghost use mathlib.Core.Path.{_≡_};
 ghost use mathlib.Core.Bool.{not};
 ghost use mathlib.Core.List.{[]};
@@ -16,7 +17,8 @@ use book_check_clear::check_clear_book;
 use book_check_encrypted::check_encrypted_book;
 use call_answer::Answer;
 
-// The first byte of the book that a call is given: 2 where it is encrypted, and so to be decrypted, else 1.
+// The first byte of the book that a call is given: 2 where it is encrypted, and so to be decrypted,
+// else 1.
 fn kind(decrypting: bool) -> u8
     ensures { λ r. ⌜ r ≡ kindOf decrypting ⌝ }
 {
@@ -34,7 +36,8 @@ fn write_book(
 )
     requires { ⌜ CipherReady (now «word_tables») (now «byte_tables») (now expanded) ⌝ }
     requires { ⌜ Formed (now book) × (length (now out) ≡ length (now book)) ⌝ }
-    ensures { λ r. ⌜ now (out .exit) ≡ mapBodies (kindOf (not decrypting)) (cryptedBody decrypting (now (expanded .entry))) (now (book .entry)) ⌝ }
+    ensures { λ r. ⌜ now (out .exit) ≡ mapBodies (kindOf (not decrypting))
+        (cryptedBody decrypting (now (expanded .entry))) (now (book .entry)) ⌝ }
 {
     book_crypt_bodies::front::copy_front(kind(!decrypting), book, out);
     book_crypt_bodies::crypt_bodies(decrypting, word_tables, byte_tables, expanded, book, out);
@@ -49,7 +52,8 @@ fn check_book(
     book: &[u8],
 ) -> Answer
     requires { ⌜ CipherReady (now «word_tables») (now «byte_tables») (now expanded) ⌝ }
-    ensures { λ r. ⌜ r ≡ bookAnswer (kindOf decrypting) (clearBody decrypting (now (expanded .entry))) (now (book .entry)) ⌝ }
+    ensures { λ r. ⌜ r ≡ bookAnswer (kindOf decrypting) (clearBody decrypting (now (expanded .entry)))
+        (now (book .entry)) ⌝ }
 {
     if decrypting {
         return check_encrypted_book(word_tables, byte_tables, expanded, book);
@@ -67,7 +71,8 @@ fn crypt_book(
     out: &mut [u8],
 ) -> Answer
     requires { ⌜ CipherReady (now «word_tables») (now «byte_tables») (now expanded) ⌝ }
-    ensures { λ r. ⌜ Answered (cryptedBook decrypting (now (expanded .entry)) (now (book .entry)) (now (out .entry))) (now (out .entry)) r (now (out .exit)) ⌝ }
+    ensures { λ r. ⌜ Answered (cryptedBook decrypting (now (expanded .entry)) (now (book .entry)) (now (out .entry)))
+        (now (out .entry)) r (now (out .exit)) ⌝ }
 {
     if out.len() != book.len() {
         return Answer::Refused(4);
@@ -88,7 +93,8 @@ pub fn encrypt_book(
     out: &mut [u8],
 ) -> Answer
     requires { ⌜ CipherReady (now «word_tables») (now «byte_tables») (now expanded) ⌝ }
-    ensures { λ r. ⌜ Answered (encryptBookBy [] (encryptUnder (now (expanded .entry))) (now (book .entry)) (now (out .entry))) (now (out .entry)) r (now (out .exit)) ⌝ }
+    ensures { λ r. ⌜ Answered (encryptBookBy [] (encryptUnder (now (expanded .entry))) (now (book .entry))
+        (now (out .entry))) (now (out .entry)) r (now (out .exit)) ⌝ }
 {
     crypt_book(false, word_tables, byte_tables, expanded, book, out)
 }
@@ -101,7 +107,8 @@ pub fn decrypt_book(
     out: &mut [u8],
 ) -> Answer
     requires { ⌜ CipherReady (now «word_tables») (now «byte_tables») (now expanded) ⌝ }
-    ensures { λ r. ⌜ Answered (decryptBookBy [] (decryptUnder (now (expanded .entry))) (now (book .entry)) (now (out .entry))) (now (out .entry)) r (now (out .exit)) ⌝ }
+    ensures { λ r. ⌜ Answered (decryptBookBy [] (decryptUnder (now (expanded .entry))) (now (book .entry))
+        (now (out .entry))) (now (out .entry)) r (now (out .exit)) ⌝ }
 {
     crypt_book(true, word_tables, byte_tables, expanded, book, out)
 }

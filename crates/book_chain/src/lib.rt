@@ -1,4 +1,5 @@
-// The chain of a sheet: CBC (NIST SP 800-38A). It is passed by value; each step hands back its block together with the chain that follows.
+// The chain of a sheet: CBC (NIST SP 800-38A). It is passed by value; each step hands back its
+// block together with the chain that follows.
 ghost use mathlib.Core.Path.{_≡_};
 ghost use lib.ListN.{length, drop};
 ghost use Rattle.clefia_spec.specs.Words.{wordsOf};

@@ -1,5 +1,6 @@
-// Check 11 of one encrypted sheet: its records decrypted, four at a time by word tables, and only looked at. Each is decrypted by itself and added to the
-// encrypted one before it, which is read from the body again. `entry` is the sheet's entry.
+// Check 11 of one encrypted sheet: its records decrypted, four at a time by word tables, and only
+// looked at. Each is decrypted by itself and added to the encrypted one before it, which is read
+// from the body again. `entry` is the sheet's entry.
 ghost use mathlib.Core.Path.{_≡_};
 ghost use mathlib.Core.List.{List};
 ghost use Prim.Native.Nat.{ℕ, _+_, _-_, _*_, _≤_};
@@ -24,7 +25,8 @@ fn clear_holds(sheet: Sheet, previous: [u32; 4], t: [u32; 4]) -> bool
     record::record_holds(sheet, cipher_bytes::xors4(previous, t))
 }
 
-// How often four of n records go at once: by word tables as long as there are four; other tables leave nothing to wait for, and there never.
+// How often four of n records go at once: by word tables as long as there are four; other tables
+// leave nothing to wait for, and there never.
 fn fours(word_tables: &[[u32; 256]], n: usize) -> usize
     ensures { λ r. ⌜ 4 * r ≤ n ⌝ }
 {
@@ -35,7 +37,7 @@ fn fours(word_tables: &[[u32; 256]], n: usize) -> usize
     }
 }
 
-// Whether the records so far hold and the four that stand at `at` too; `previous` went before them.
+// Whether the records so far hold and the four at `at` too; `previous` went before them.
 fn four_hold(
     held: bool,
     word_tables: &[[u32; 256]],
@@ -48,7 +50,10 @@ fn four_hold(
 ) -> bool
     requires { ⌜ CipherReady (now «word_tables») (now «byte_tables») (now expanded) ⌝ }
     requires { ⌜ at + 64 ≤ length (now body) ⌝ }
-    ensures { λ r. ⌜ ((e : List ℕ) (left : ℕ) → sheet ≡ sheetOf e → length (now (body .entry)) ≡ 16 * count e → Decrypted held (now (expanded .entry)) e (now (body .entry)) at left previous → 4 ≤ left → Decrypted r (now (expanded .entry)) e (now (body .entry)) (at + 64) (left - 4) (wordsOf 4 (drop (at + 48) (now (body .entry))))) ⌝ }
+    ensures { λ r. ⌜ ((e : List ℕ) (left : ℕ) → sheet ≡ sheetOf e → length (now (body .entry)) ≡ 16 * count e
+        → Decrypted held (now (expanded .entry)) e (now (body .entry)) at left previous → 4 ≤ left
+        → Decrypted r (now (expanded .entry)) e (now (body .entry)) (at + 64) (left - 4)
+        (wordsOf 4 (drop (at + 48) (now (body .entry))))) ⌝ }
 {
     let t = decrypt_four(word_tables, byte_tables, expanded, body, at);
     let a = t.a;
@@ -64,7 +69,8 @@ fn four_hold(
     held & p & q & r & s
 }
 
-// Whether the records so far hold and the last `n` too, which stand from `from` on, one by one; `before` went before them.
+// Whether the records so far hold and the last `n` too, from `from` on, one by one; `before` went
+// before them.
 fn rest_holds(
     held: bool,
     word_tables: &[[u32; 256]],
@@ -80,7 +86,8 @@ fn rest_holds(
     requires { ⌜ length (now entry) ≡ 24 ⌝ }
     requires { ⌜ length (now body) ≡ 16 * count (now entry) ⌝ }
     requires { ⌜ Decrypted held (now expanded) (now entry) (now body) from n before ⌝ }
-    ensures { λ r. ⌜ r ≡ sheetHolds (now (entry .entry)) (decryptBody (decryptUnder (now (expanded .entry))) (now (entry .entry)) (now (body .entry))) ⌝ }
+    ensures { λ r. ⌜ r ≡ sheetHolds (now (entry .entry))
+        (decryptBody (decryptUnder (now (expanded .entry))) (now (entry .entry)) (now (body .entry))) ⌝ }
 {
     let sheet = entry::read_sheet(entry);
     let mut chain = Chain { previous: before };
@@ -106,8 +113,10 @@ fn rest_holds(
     held
 }
 
-// Every record of an encrypted body, decrypted and dropped again: nothing is written. By word tables they go four at a time as long as there are four, and no
-// four ends the loop: with one way out more the compiler would take the rest for seldom, and keep its rounds out of line (DECISIONS).
+// Every record of an encrypted body, decrypted and dropped again: nothing is written. By word
+// tables they go four at a time as long as there are four, and no four ends the loop: with one way
+// out more the compiler would take the rest for seldom, and keep its rounds out of line (DECISIONS,
+// "By other tables records go").
 pub fn decrypted_sheet_holds(
     word_tables: &[[u32; 256]],
     byte_tables: &[[u8; 256]],
@@ -118,7 +127,8 @@ pub fn decrypted_sheet_holds(
     requires { ⌜ CipherReady (now «word_tables») (now «byte_tables») (now expanded) ⌝ }
     requires { ⌜ length (now entry) ≡ 24 ⌝ }
     requires { ⌜ length (now body) ≡ 16 * count (now entry) ⌝ }
-    ensures { λ r. ⌜ r ≡ sheetHolds (now (entry .entry)) (decryptBody (decryptUnder (now (expanded .entry))) (now (entry .entry)) (now (body .entry))) ⌝ }
+    ensures { λ r. ⌜ r ≡ sheetHolds (now (entry .entry))
+        (decryptBody (decryptUnder (now (expanded .entry))) (now (entry .entry)) (now (body .entry))) ⌝ }
 {
     let sheet = entry::read_sheet(entry);
     let chain = Chain::new(entry);

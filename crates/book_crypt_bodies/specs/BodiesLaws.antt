@@ -1,4 +1,5 @@
--- All bodies written one after the other: what is written of the output so far, and what is to come.
+-- All bodies written one after the other: what is written of the output so far, and what is to
+-- come.
 use Prim.Native.Nat.{ℕ, _+_, _-_, _*_, _≤_, _<_}
 use mathlib.Core.Path.{_≡_, sym, ap, _∙_}
 use mathlib.Core.List.{List, _++_}
@@ -41,11 +42,13 @@ module _ (f : List ℕ → List ℕ → List ℕ) {book : List ℕ} (o : List �
           long = rw (at-end s) (length-part (c .at) size out body l (part-fits s) ∙ w .long);
           whole =
               rw (s .is)
-              (fill-part (c .at) size out body (eachBody f (pieces 24 (c .left - 1) (drop (c .from + 24) book)) (drop (c .at + size) book)) l (part-fits s)
+              (fill-part (c .at) size out body (eachBody f (pieces 24 (c .left - 1) (drop (c .from + 24) book))
+              (drop (c .at + size) book)) l (part-fits s)
               (rw (body-next f (c .left) (c .from) (c .at) book h) at (w .whole)));
         }
 
-    pub bodies-filled-end : c .left ≡ 0 → out ≡ take (4 + 24 * sheetCount book) o ++ eachBody f (contents book) (bodies book)
+    pub bodies-filled-end : c .left ≡ 0 → out ≡ take (4 + 24 * sheetCount book) o
+        ++ eachBody f (contents book) (bodies book)
     unfolding eachBody recordCount pieces
     bodies-filled-end z =
         let r : c .at + 16 * 0 ≡ length book = rw z at (w .placed .rest) in

@@ -7,7 +7,8 @@ use book_numbers::u16_at;
 
 pub fn copy_front(kind: u8, book: &[u8], out: &mut [u8])
     requires { ⌜ (4 + 24 * sheetCount (now book) ≤ length (now book)) × (length (now out) ≡ length (now book)) ⌝ }
-    ensures { λ r. ⌜ take (4 + 24 * sheetCount (now (book .entry))) (now (out .exit)) ≡ set (take (4 + 24 * sheetCount (now (book .entry))) (now (book .entry))) 0 kind ⌝ }
+    ensures { λ r. ⌜ take (4 + 24 * sheetCount (now (book .entry))) (now (out .exit))
+        ≡ set (take (4 + 24 * sheetCount (now (book .entry))) (now (book .entry))) 0 kind ⌝ }
 {
     let end = 4 + 24 * u16_at(book, 2);
     let mut i = 0;

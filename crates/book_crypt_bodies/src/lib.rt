@@ -1,4 +1,5 @@
-// What is written of a book: the front, and the bodies of all sheets encrypted or decrypted, one after the other.
+// What is written of a book: the front, and the bodies of all sheets encrypted or decrypted, one
+// after the other.
 pub mod front;
 
 ghost use mathlib.Core.Path.{_≡_};
@@ -10,7 +11,7 @@ ghost use Rattle.cipher_ffunction.specs.Tables.{CipherReady};
 ghost use Rattle.planbook_laws.specs.BookLaws.{Formed};
 ghost use Rattle.book_chain.specs.Crypt.{cryptedBody};
 
-// Each body recoded where it stood, and the front of the output left as it was.
+// Each body encrypted or decrypted where it was, and the front of the output left as it was.
 pub fn crypt_bodies(
     decrypting: bool,
     word_tables: &[[u32; 256]],
@@ -21,7 +22,9 @@ pub fn crypt_bodies(
 )
     requires { ⌜ CipherReady (now «word_tables») (now «byte_tables») (now expanded) ⌝ }
     requires { ⌜ Formed (now book) × (length (now out) ≡ length (now book)) ⌝ }
-    ensures { λ r. ⌜ now (out .exit) ≡ take (4 + 24 * sheetCount (now (book .entry))) (now (out .entry)) ++ eachBody (cryptedBody decrypting (now (expanded .entry))) (contents (now (book .entry))) (bodies (now (book .entry))) ⌝ }
+    ensures { λ r. ⌜ now (out .exit) ≡ take (4 + 24 * sheetCount (now (book .entry))) (now (out .entry))
+        ++ eachBody (cryptedBody decrypting (now (expanded .entry))) (contents (now (book .entry)))
+        (bodies (now (book .entry))) ⌝ }
 {
     let mut cursor = book_sheets::first(book);
     while 0 < cursor.left {

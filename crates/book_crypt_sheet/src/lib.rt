@@ -1,5 +1,6 @@
-// The body of one sheet, encrypted or decrypted: in decrypting by word tables four records at a time, the rest and all encrypting block by block. `entry` is the
-// sheet's entry. Of four, each is decrypted by itself and added to the encrypted one before it, which is read from the body again.
+// The body of one sheet, encrypted or decrypted: in decrypting by word tables four records at a
+// time, the rest and all encrypting block by block. `entry` is the sheet's entry. Of four, each is
+// decrypted by itself and added to the encrypted one before it, which is read from the body again.
 ghost use mathlib.Core.Path.{_≡_};
 ghost use mathlib.Core.Bool.{true};
 ghost use mathlib.Core.List.{List};
@@ -15,7 +16,8 @@ use book_numbers::u16_at;
 use cipher_block_four_way::decrypt_four;
 use cipher_ffunction::has_word_tables;
 
-// A decrypted block t added to the encrypted one before it, and written at `at`; the encrypted one that stands there is read.
+// A decrypted block t added to the encrypted one before it, and written at `at`; the encrypted one
+// there is read.
 fn write_clear(body: &[u8], out: &mut [u8], at: usize, previous: [u32; 4], t: [u32; 4]) -> [u32; 4]
     requires { ⌜ (at + 16 ≤ length (now body)) × (at + 16 ≤ length (now out)) ⌝ }
     ensures { λ r. ⌜ ClearWritten (now (body .entry)) (now (out .entry)) at previous t r (now (out .exit)) ⌝ }
@@ -29,7 +31,8 @@ fn write_clear(body: &[u8], out: &mut [u8], at: usize, previous: [u32; 4], t: [u
     )
 }
 
-// The four records that stand at `at`, written; `previous` went before them, and what goes before the next is handed back.
+// The four records at `at`, written; `previous` went before them, and what goes before the next is
+// returned.
 fn write_four(
     word_tables: &[[u32; 256]],
     byte_tables: &[[u8; 256]],
@@ -41,7 +44,9 @@ fn write_four(
 ) -> [u32; 4]
     requires { ⌜ CipherReady (now «word_tables») (now «byte_tables») (now expanded) ⌝ }
     requires { ⌜ (at + 64 ≤ length (now body)) × (at + 64 ≤ length (now out)) ⌝ }
-    ensures { λ r. ⌜ ((e : List ℕ) (left : ℕ) → length (now (body .entry)) ≡ 16 * count e → Chained true (now (expanded .entry)) e (now (body .entry)) (now (out .entry)) at left previous → 4 ≤ left → Chained true (now (expanded .entry)) e (now (body .entry)) (now (out .exit)) (at + 64) (left - 4) r) ⌝ }
+    ensures { λ r. ⌜ ((e : List ℕ) (left : ℕ) → length (now (body .entry)) ≡ 16 * count e
+        → Chained true (now (expanded .entry)) e (now (body .entry)) (now (out .entry)) at left previous → 4 ≤ left
+        → Chained true (now (expanded .entry)) e (now (body .entry)) (now (out .exit)) (at + 64) (left - 4) r) ⌝ }
 {
     let t = decrypt_four(word_tables, byte_tables, expanded, body, at);
     let a = t.a;
@@ -57,7 +62,8 @@ fn write_four(
     write_clear(body, out, fourth, r, d)
 }
 
-// Where the records of a body begin that are still to be recoded, how many they are, and the block before them.
+// Where the records of a body begin that are still to be written, how many they are, and the block
+// before them.
 pub struct Place {
     pub at: usize,
     pub left: usize,
@@ -76,7 +82,8 @@ fn write_fours(
     requires { ⌜ CipherReady (now «word_tables») (now «byte_tables») (now expanded) ⌝ }
     requires { ⌜ length (now entry) ≡ 24 ⌝ }
     requires { ⌜ (length (now body) ≡ 16 * count (now entry)) × (length (now out) ≡ 16 * count (now entry)) ⌝ }
-    ensures { λ r. ⌜ Chained true (now (expanded .entry)) (now (entry .entry)) (now (body .entry)) (now (out .exit)) (r .at) (r .left) (r .previous) ⌝ }
+    ensures { λ r. ⌜ Chained true (now (expanded .entry)) (now (entry .entry)) (now (body .entry)) (now (out .exit))
+        (r .at) (r .left) (r .previous) ⌝ }
 {
     let mut left = u16_at(entry, 4);
     let chain = Chain::new(entry);
@@ -91,8 +98,9 @@ fn write_fours(
     Place { at, left, previous }
 }
 
-// What of a body is recoded before the rest goes record by record: in decrypting by word tables, all fours; in encrypting, where each record waits
-// for the one before it, and by other tables, which leave nothing to wait for, nothing.
+// What of a body is written before the rest goes record by record: in decrypting by word tables,
+// all fours; in encrypting, where each record waits for the one before it, and by other tables,
+// which leave nothing to wait for, nothing.
 fn begin(
     decrypting: bool,
     word_tables: &[[u32; 256]],
@@ -105,7 +113,8 @@ fn begin(
     requires { ⌜ CipherReady (now «word_tables») (now «byte_tables») (now expanded) ⌝ }
     requires { ⌜ length (now entry) ≡ 24 ⌝ }
     requires { ⌜ (length (now body) ≡ 16 * count (now entry)) × (length (now out) ≡ 16 * count (now entry)) ⌝ }
-    ensures { λ r. ⌜ Chained decrypting (now (expanded .entry)) (now (entry .entry)) (now (body .entry)) (now (out .exit)) (r .at) (r .left) (r .previous) ⌝ }
+    ensures { λ r. ⌜ Chained decrypting (now (expanded .entry)) (now (entry .entry)) (now (body .entry))
+        (now (out .exit)) (r .at) (r .left) (r .previous) ⌝ }
 {
     if decrypting {
         if has_word_tables(word_tables) {
@@ -122,7 +131,8 @@ fn begin(
     }
 }
 
-// Where the block after the one that ends at `end` begins, among `size` bytes of whole blocks; behind the last one, the first again.
+// Where the block after the one that ends at `end` begins, among `size` bytes of whole blocks;
+// after the last one, the first again.
 fn following(end: usize, size: usize) -> usize
     ensures { λ r. ⌜ (end < size → r ≡ end) × (size ≤ end → r ≡ 0) ⌝ }
 {
@@ -141,7 +151,8 @@ pub fn crypt_sheet(
     requires { ⌜ CipherReady (now «word_tables») (now «byte_tables») (now expanded) ⌝ }
     requires { ⌜ length (now entry) ≡ 24 ⌝ }
     requires { ⌜ (length (now body) ≡ 16 * count (now entry)) × (length (now out) ≡ 16 * count (now entry)) ⌝ }
-    ensures { λ r. ⌜ now (out .exit) ≡ cryptedBody decrypting (now (expanded .entry)) (now (entry .entry)) (now (body .entry)) ⌝ }
+    ensures { λ r. ⌜ now (out .exit) ≡ cryptedBody decrypting (now (expanded .entry)) (now (entry .entry))
+        (now (body .entry)) ⌝ }
 {
     let start = begin(
         decrypting,

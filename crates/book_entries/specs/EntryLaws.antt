@@ -36,15 +36,18 @@ third-passed a b c d e h = both-true (a && b) c (both-true (a && b && c) d (both
 
 few-of : (p : ℕ) (e : List ℕ) → entryHolds p e ≡ true → count e ≤ 1024
 unfolding entryHolds
-few-of p e h = leb-true (count e) 1024 (third-passed (ltb p (trial e)) (leb 1 (count e)) (leb (count e) 1024) (leb (replicates e) 8) (eqb (getD e 7 0) 0) h)
+few-of p e h = leb-true (count e) 1024 (third-passed (ltb p (trial e)) (leb 1 (count e)) (leb (count e) 1024)
+    (leb (replicates e) 8) (eqb (getD e 7 0) 0) h)
 
 held-by : (p : ℕ) (e : List ℕ) (s : Sheet) (t : Bool) → entryHolds p e ≡ t → Good s ≡ entryOf p e → Held p e s
-held-by p e s true h g = let q : Good s ≡ Good (sheetOf e) = rw h at g in record { holds = h; sheet = cc; few = few-of p e h }
+held-by p e s true h g = let q : Good s ≡ Good (sheetOf e) = rw h at g in
+    record { holds = h; sheet = cc; few = few-of p e h }
 held-by p e s false h g = let q : Good s ≡ Broken = rw h at g in let z : _≡_ {A = ℕ} 0 1 = cc in absurd (omega arith)
 
 pub held : (p : ℕ) (e : List ℕ) (s : Sheet) → Good s ≡ entryOf p e → Held p e s
 held p e s g = held-by p e s (entryHolds p e) refl g
 
 pub broken-by : (p : ℕ) (e : List ℕ) (t : Bool) → entryHolds p e ≡ t → Broken ≡ entryOf p e → entryHolds p e ≡ false
-broken-by p e true h g = let q : Broken ≡ Good (sheetOf e) = rw h at g in let z : _≡_ {A = ℕ} 0 1 = cc in absurd (omega arith)
+broken-by p e true h g = let q : Broken ≡ Good (sheetOf e) = rw h at g in let z : _≡_ {A = ℕ} 0 1 = cc in
+    absurd (omega arith)
 broken-by p e false h g = h

@@ -25,14 +25,26 @@ column-words a b c d h = omega arith
 
 pub record-words : (e : List ℕ) (a b c d : ℕ) → a < 2 ^ 32 → b < 2 ^ 32 → c < 2 ^ 32 → d < 2 ^ 32
     → recordHolds e (bytesOf (a ∷ b ∷ c ∷ d ∷ []))
-    ≡ (eqb a (trial e) && leb 1 b && leb 1 (c / 16777216) && leb (c / 16777216) (replicates e) && plotHolds (c / 256 % 65536) (c % 256 * 256 + d / 16777216) && eqb (d % 16777216) 0)
+    ≡ (eqb a (trial e) && leb 1 b && leb 1 (c / 16777216) && leb (c / 16777216) (replicates e) && plotHolds
+    (c / 256 % 65536) (c % 256 * 256 + d / 16777216) && eqb (d % 16777216) 0)
 unfolding recordHolds number digitsOf toDigits
-record-words e a b c d ha hb hc hd = rw (word-back a ha, word-back b hb, byte-high c hc, plot-row a b c d, column-words a b c d hd, from-to (lit< tt) 3 d)
+record-words e a b c d ha hb hc hd = rw (
+  word-back a ha,
+  word-back b hb,
+  byte-high c hc,
+  plot-row a b c d,
+  column-words a b c d hd,
+  from-to (lit< tt) 3 d,
+)
 
-pub record-state : (e r : List ℕ) {t n : ℕ} → length r ≡ 4 → ((i : ℕ) → getD r i 0 < 2 ^ 32) → t ≡ trial e → n ≡ replicates e
-    → (eqb (getD r 0 0) t && leb 1 (getD r 1 0) && leb 1 (getD r 2 0 / 16777216) && leb (getD r 2 0 / 16777216) n && plotHolds (getD r 2 0 / 256 % 65536) (getD r 2 0 % 256 * 256 + getD r 3 0 / 16777216) && eqb (getD r 3 0 % 16777216) 0)
+pub record-state : (e r : List ℕ) {t n : ℕ} → length r ≡ 4 → ((i : ℕ) → getD r i 0 < 2 ^ 32) → t ≡ trial e
+    → n ≡ replicates e
+    → (eqb (getD r 0 0) t && leb 1 (getD r 1 0) && leb 1 (getD r 2 0 / 16777216) && leb
+    (getD r 2 0 / 16777216) n && plotHolds (getD r 2 0 / 256 % 65536)
+    (getD r 2 0 % 256 * 256 + getD r 3 0 / 16777216) && eqb (getD r 3 0 % 16777216) 0)
     ≡ recordHolds e (bytesOf r)
-record-state e (a ∷ b ∷ c ∷ d ∷ []) l fits h k = rw (h, k) (sym (record-words e a b c d (fits 0) (fits 1) (fits 2) (fits 3)))
+record-state e (a ∷ b ∷ c ∷ d ∷ []) l fits h k =
+    rw (h, k) (sym (record-words e a b c d (fits 0) (fits 1) (fits 2) (fits 3)))
 record-state e [] l fits h k = let z : ⊥ = omega arith in absurd z
 record-state e (a ∷ []) l fits h k = let z : ⊥ = omega arith in absurd z
 record-state e (a ∷ b ∷ []) l fits h k = let z : ⊥ = omega arith in absurd z

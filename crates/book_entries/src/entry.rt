@@ -20,7 +20,7 @@ pub enum Entry {
     Broken,
 }
 
-// The number of replicates. 0 stands in the books of past seasons, and is read as 4.
+// The number of replicates. The books of past seasons have 0, which is read as 4.
 fn read_replicates(entry: &[u8]) -> u32
     requires { ⌜ length (now entry) ≡ 24 ⌝ }
     ensures { λ r. ⌜ r ≡ replicates (now (entry .entry)) ⌝ }
@@ -28,7 +28,7 @@ fn read_replicates(entry: &[u8]) -> u32
     if entry[6] == 0 { 4 } else { entry[6] as u32 }
 }
 
-// The sheet that an entry tells of, whether it holds or not.
+// The sheet that an entry describes, whether it holds or not.
 pub fn read_sheet(entry: &[u8]) -> Sheet
     requires { ⌜ length (now entry) ≡ 24 ⌝ }
     ensures { λ r. ⌜ r ≡ sheetOf (now (entry .entry)) ⌝ }

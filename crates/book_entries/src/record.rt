@@ -9,7 +9,8 @@ ghost use Rattle.book_entries.specs.Entry.{sheetOf};
 use super::entry;
 use super::entry::Sheet;
 
-// What holds of the plot of a record whose third and fourth word these are. `&` and `|` try every test, which leaves the proof one way to follow.
+// What holds of the plot of a record whose third and fourth word these are. `&` and `|` try every
+// test, which leaves the proof one way to follow.
 fn plot_holds(third: u32, fourth: u32) -> bool
     ensures { λ b. ⌜ b ≡ plotHolds (third / 256 % 65536) (third % 256 * 256 + fourth / 16777216) ⌝ }
 {
@@ -18,7 +19,8 @@ fn plot_holds(third: u32, fourth: u32) -> bool
     (row == 0) & (column == 0) | (1 <= row) & (row <= 999) & (1 <= column) & (column <= 999)
 }
 
-// What holds of a record, on its four words: trial; entry; replicate, row and the high byte of the column; its low byte and three zero bytes.
+// What holds of a record, on its four words: trial; entry; replicate, row and the high byte of the
+// column; its low byte and three zero bytes.
 pub fn record_holds(sheet: Sheet, r: [u32; 4]) -> bool
     ensures { λ b. ⌜ ((e : List ℕ) → sheet ≡ sheetOf e → b ≡ recordHolds e (bytesOf r)) ⌝ }
 {

@@ -8,7 +8,8 @@ use Rattle.call_answer.specs.declared.Answer.the-variants.{Accepted, Refused}
 use Rattle.call_answer.specs.Answer.{answerOf}
 use Rattle.call_answer.specs.Judging.{stopped-first, passed-first, Went, went}
 use Rattle.planbook_spec.specs.Outcome.{accepted, check, judged}
-use Rattle.planbook_spec.specs.Book.{contents, bodies, recordCount, formChecks, sheetsHold, recordsCheck, formAndRecords}
+use Rattle.planbook_spec.specs.Book.{contents, bodies, recordCount, formChecks, sheetsHold, recordsCheck}
+use Rattle.planbook_spec.specs.Book.{formAndRecords}
 use Rattle.planbook_laws.specs.BookLaws.{Formed, formed}
 use Rattle.book_form.specs.Form.{formAnswer}
 
@@ -19,7 +20,8 @@ bookAnswer kind f book = answerOf (judged (formAndRecords kind f book) (accepted
 -- A wrong form; and, once the form holds, the records.
 module _ (kind : ℕ) (f : List ℕ → List ℕ → List ℕ) (book : List ℕ) where
   pub form-stopped : {r : Answer} {c : ℕ} → r ≡ formAnswer kind book → r ≡ Refused c → r ≡ bookAnswer kind f book
-  form-stopped e h = h ∙ sym (ap answerOf (stopped-first (formChecks kind book) _ (recordCount (contents book)) _ (sym h ∙ e)))
+  form-stopped e h = h
+      ∙ sym (ap answerOf (stopped-first (formChecks kind book) _ (recordCount (contents book)) _ (sym h ∙ e)))
 
   module _ {records : ℕ} (e : Accepted records ≡ formAnswer kind book) where
     passed-form : Went (formChecks kind book) (recordCount (contents book)) records
@@ -31,4 +33,5 @@ module _ (kind : ℕ) (f : List ℕ → List ℕ → List ℕ) (book : List ℕ)
     pub by-records : {t : Bool} → sheetsHold f (contents book) (bodies book) ≡ t
         → answerOf (judged (check 11 t ∷ []) (accepted records [])) ≡ bookAnswer kind f book
     unfolding recordsCheck
-    by-records h = sym (ap answerOf (passed-first (formChecks kind book) _ _ (passed-form .checks)) ∙ (rw (h, passed-form .same)))
+    by-records h = sym (ap answerOf (passed-first (formChecks kind book) _ _ (passed-form .checks))
+        ∙ (rw (h, passed-form .same)))

@@ -11,7 +11,7 @@ use Rattle.planbook_spec.specs.Book.{sheetCount, contents, recordCount, formChe
 abbrev pub headAnswer : ℕ → List ℕ → Answer
 headAnswer kind book = answerOf (judged (take 4 (formChecks kind book)) (accepted (sheetCount book) []))
 
--- Checks 9 and 10, which do not look at the mark.
+-- Checks 9 and 10, which do not look at the kind.
 abbrev pub contentsAnswer : List ℕ → Answer
 contentsAnswer book = answerOf (judged (drop 4 (formChecks 0 book)) (accepted (recordCount (contents book)) []))
 

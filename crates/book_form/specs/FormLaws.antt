@@ -28,16 +28,20 @@ module _ (kind : ℕ) (book : List ℕ) {r : Answer} where
   pub form-stopped : {c : ℕ} → r ≡ headAnswer kind book → r ≡ Refused c → r ≡ formAnswer kind book
   unfolding formChecks
   form-stopped {c} e h =
-      h ∙ sym (ap answerOf (stopped-first (take 4 (formChecks kind book)) (drop 4 (formChecks kind book)) (sheetCount book) (accepted _ _) (sym h ∙ e)))
+      h ∙ sym (ap answerOf (stopped-first (take 4 (formChecks kind book)) (drop 4 (formChecks kind book))
+      (sheetCount book) (accepted _ _) (sym h ∙ e)))
 
   pub form-passed : AllPass (take 4 (formChecks kind book)) → r ≡ contentsAnswer book → r ≡ formAnswer kind book
   unfolding formChecks
-  form-passed p e = e ∙ sym (ap answerOf (passed-first (take 4 (formChecks kind book)) (drop 4 (formChecks kind book)) (accepted _ _) p))
+  form-passed p e = e
+      ∙ sym (ap answerOf (passed-first (take 4 (formChecks kind book)) (drop 4 (formChecks kind book))
+      (accepted _ _) p))
 
 -- The number of sheets that the first group answers.
 pub head-formed : (kind : ℕ) (book : List ℕ) {sheets : ℕ} → Accepted sheets ≡ headAnswer kind book
     → (sheets ≡ sheetCount book) × (sheets ≤ 64) × (4 + 24 * sheets ≤ length book)
 head-formed kind book e =
-    let w : Went (take 4 (formChecks kind book)) (sheetCount book) _ = went (take 4 (formChecks kind book)) (sheetCount book) e in
+    let w : Went (take 4 (formChecks kind book)) (sheetCount book) _ =
+    went (take 4 (formChecks kind book)) (sheetCount book) e in
     let f : HeadFits book = head-fits kind book (w .checks) in
     (w .same, rw (w .same) (f .few), rw (w .same) (f .long))

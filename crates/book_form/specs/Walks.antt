@@ -9,7 +9,8 @@ use lib.ListN.{length, take, drop}
 use Rattle.call_answer.specs.declared.Answer.the-variants.{Accepted, Refused}
 use Rattle.planbook_spec.specs.Outcome.{judged}
 use Rattle.planbook_laws.specs.WalkLaws.{pieces-next}
-use Rattle.planbook_spec.specs.Book.{trial, count, pieces, entryHolds, entriesHold, sheetCount, contents, recordCount, formChecks}
+use Rattle.planbook_spec.specs.Book.{trial, count, pieces, entryHolds, entriesHold, sheetCount, contents, recordCount}
+use Rattle.planbook_spec.specs.Book.{formChecks}
 use Rattle.book_entries.specs.declared.entry.Sheet.{Sheet}
 use Rattle.book_entries.specs.declared.entry.Entry.the-variants.{Good, Broken}
 use Rattle.book_entries.specs.Entry.{entryOf}
@@ -28,7 +29,8 @@ pub walk-start : (book : List ℕ) (sheets : ℕ) → sheets ≤ 64 → sheets �
 walk-start book sheets h e = rw e (record { place = refl; room = omega arith; holds = refl; counted = omega arith })
 
 module _ {book : List ℕ} {previous records at left : ℕ} (w : Walked book previous records at left) where
-  pub walk-step : (s : Sheet) → 0 < left → Good s ≡ entryOf previous (take 24 (drop at book)) → Walked book (s .trial) (records + s .count) (at + 24) (left - 1)
+  pub walk-step : (s : Sheet) → 0 < left → Good s ≡ entryOf previous (take 24 (drop at book))
+      → Walked book (s .trial) (records + s .count) (at + 24) (left - 1)
   unfolding entriesHold recordCount
   walk-step s h g =
       let k : Held previous (take 24 (drop at book)) s = held previous (take 24 (drop at book)) s g in
@@ -46,7 +48,8 @@ module _ {book : List ℕ} {previous records at left : ℕ} (w : Walked book pre
   pub walk-broken : 0 < left → Broken ≡ entryOf previous (take 24 (drop at book)) → Refused 9 ≡ contentsAnswer book
   unfolding entriesHold formChecks judged
   walk-broken h g =
-      let no : entryHolds previous (take 24 (drop at book)) ≡ false = broken-by previous (take 24 (drop at book)) _ refl g in
+      let no : entryHolds previous (take 24 (drop at book)) ≡ false =
+      broken-by previous (take 24 (drop at book)) _ refl g in
       let q : false ≡ entriesHold 0 (contents book) = rw (pieces-next 24 left at book h, no) at (w .holds) in
       rw (← q)
 

@@ -1,4 +1,5 @@
-// The form of a book, checks 5 to 10, in groups. Each group answers as a call does: its first check that fails, or a count.
+// The form of a book, checks 5 to 10, in groups. Each group answers as a call does: its first check
+// that fails, or a count.
 ghost use mathlib.Core.Path.{_≡_};
 ghost use mathlib.Core.Bool.{_&&_};
 ghost use Prim.Native.Nat.{_+_, _*_, _≤_};
@@ -69,7 +70,7 @@ fn check_contents(book: &[u8], sheets: usize) -> Answer
     Answer::Accepted(records as u64)
 }
 
-// Checks 5 to 10; `mark` is the permitted first byte. The count is that of the records.
+// Checks 5 to 10; `kind` is the permitted first byte. The count is that of the records.
 pub fn check_form(kind: u8, book: &[u8]) -> Answer
     ensures { λ r. ⌜ r ≡ formAnswer kind (now (book .entry)) ⌝ }
 {

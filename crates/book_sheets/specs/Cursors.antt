@@ -31,8 +31,13 @@ pub record First (book : List ℕ) (c : Cursor) : Type 0 where
   pub is : c ≡ record { from = 4; at = 4 + 24 * sheetCount book; left = sheetCount book }
   pub placed : Placed book c
 
-pub at-first : {book : List ℕ} → Formed book → {c : Cursor} → c ≡ record { from = 4; at = 4 + 24 * sheetCount book; left = sheetCount book } → First book c
-at-first f e = record { is = e; placed = rw e (record { place = refl; room = omega (arith, f .size); rest = sym (f .size) }) }
+pub at-first : {book : List ℕ} → Formed book → {c : Cursor}
+    → c ≡ record { from = 4; at = 4 + 24 * sheetCount book; left = sheetCount book } → First book c
+at-first f e = record {
+  is = e;
+  placed =
+      rw e (record { place = refl; room = omega (arith, f .size); rest = sym (f .size) });
+}
 
 -- The cursor n after c: the entry and the body between them are within the book.
 pub record Next (book : List ℕ) (c n : Cursor) : Type 0 where
@@ -44,7 +49,8 @@ pub record Next (book : List ℕ) (c n : Cursor) : Type 0 where
 pub at-next : {book : List ℕ} {c n : Cursor} → Placed book c → 0 < c .left
     → n ≡ record { from = c .from + 24; at = c .at + 16 * count (entryAt book c); left = c .left - 1 } → Next book c n
 at-next {book} {c} p h e =
-    let r : c .at + 16 * (count (entryAt book c) + recordCount (pieces 24 (c .left - 1) (drop (c .from + 24) book))) ≡ length book = rw (count-next (c .left) (c .from) book h) at (p .rest) in
+    let r : c .at + 16 * (count (entryAt book c) + recordCount (pieces 24 (c .left - 1) (drop (c .from + 24) book)))
+    ≡ length book = rw (count-next (c .left) (c .from) book h) at (p .rest) in
     record {
       is = e;
       entry-fits = omega (arith, p .place, p .room);
@@ -90,12 +96,19 @@ pub record Reached (book : List ℕ) (i : ℕ) (c : Cursor) : Type 0 where
 
 pub reached-first : {book : List ℕ} {c : Cursor} → First book c → Reached book 0 c
 unfolding pieces recordCount
-reached-first f = record { from = rw (f .is); start = rw (f .is) (omega arith); left = rw (f .is) (omega arith); placed = f .placed }
+reached-first f = record {
+  from = rw (f .is);
+  start = rw (f .is) (omega arith);
+  left =
+      rw (f .is) (omega arith);
+  placed = f .placed;
+}
 
 pub reached-next : {book : List ℕ} {i : ℕ} {c n : Cursor} → Reached book i c → Next book c n → Reached book (i + 1) n
 reached-next {book} {i} {c} r s =
     let e : drop (24 * i) (drop 4 book) ≡ drop (c .from) book = drop-drop (24 * i) 4 book ∙ rw (r .from) in
-    let more : recordCount (pieces 24 (i + 1) (drop 4 book)) ≡ recordCount (pieces 24 i (drop 4 book)) + count (entryAt book c) =
+    let more : recordCount (pieces 24 (i + 1) (drop 4 book))
+    ≡ recordCount (pieces 24 i (drop 4 book)) + count (entryAt book c) =
     rw (add-one, ← e) (records-more i (drop 4 book)) in
     record {
       from = rw (s .is) (omega (arith, r .from));

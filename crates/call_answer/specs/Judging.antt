@@ -1,4 +1,5 @@
--- Laws of answers: checks that are made in groups, one after the other, answer as they do in one list.
+-- Laws of answers: checks that are made in groups, one after the other, answer as they do in one
+-- list.
 use Prim.Native.Nat.{ℕ}
 use mathlib.Core.Path.{_≡_, refl, sym, _∙_}
 use mathlib.Core.Bool.{true, false}
@@ -11,7 +12,8 @@ use Rattle.planbook_spec.specs.Outcome.{Outcome, refused, accepted, after, Chec
 use Rattle.planbook_spec.specs.OutcomeLaws.{AllPass, none, more, judged-append, judged-pass}
 
 -- A group that refuses, refuses all that begins with it.
-pub stopped : (cs : List Check) (n : ℕ) {c : ℕ} (o : Outcome) → Refused c ≡ answerOf (judged cs (accepted n [])) → judged cs o ≡ refused c
+pub stopped : (cs : List Check) (n : ℕ) {c : ℕ} (o : Outcome) → Refused c ≡ answerOf (judged cs (accepted n []))
+    → judged cs o ≡ refused c
 unfolding judged
 stopped [] n o e = let z : _≡_ {A = ℕ} 0 1 = cc in absurd (omega arith)
 stopped (check d true ∷ cs) n o e = stopped cs n o e
@@ -25,11 +27,13 @@ pub record Went (cs : List Check) (n m : ℕ) : Type 0 where
 pub went : (cs : List Check) (n : ℕ) {m : ℕ} → Accepted m ≡ answerOf (judged cs (accepted n [])) → Went cs n m
 unfolding judged
 went [] n e = record { checks = none; same = cc }
-went (check d true ∷ cs) n {m} e = let w : Went cs n m = went cs n e in record { checks = more (w .checks); same = w .same }
+went (check d true ∷ cs) n {m} e = let w : Went cs n m = went cs n e in
+    record { checks = more (w .checks); same = w .same }
 went (check d false ∷ cs) n e = let z : _≡_ {A = ℕ} 0 1 = cc in absurd (omega arith)
 
 -- Two groups.
-pub stopped-first : (cs ds : List Check) (n : ℕ) {c : ℕ} (o : Outcome) → Refused c ≡ answerOf (judged cs (accepted n [])) → judged (cs ++ ds) o ≡ refused c
+pub stopped-first : (cs ds : List Check) (n : ℕ) {c : ℕ} (o : Outcome)
+    → Refused c ≡ answerOf (judged cs (accepted n [])) → judged (cs ++ ds) o ≡ refused c
 stopped-first cs ds n o e = judged-append cs ds o ∙ stopped cs n (judged ds o) e
 
 pub passed-first : (cs ds : List Check) (o : Outcome) → AllPass cs → judged (cs ++ ds) o ≡ judged ds o
@@ -40,18 +44,23 @@ pub answered-refused : {o : Outcome} {c : ℕ} (out : List ℕ) → o ≡ refuse
 unfolding after
 answered-refused out e = rw e (record { case = refl; output = refl })
 
-pub answered-accepted : {o : Outcome} {n : ℕ} {bs : List ℕ} (out exit : List ℕ) → o ≡ accepted n bs → exit ≡ bs → Answered o out (Accepted n) exit
+pub answered-accepted : {o : Outcome} {n : ℕ} {bs : List ℕ} (out exit : List ℕ) → o ≡ accepted n bs → exit ≡ bs
+    → Answered o out (Accepted n) exit
 unfolding after
 answered-accepted out exit e h = rw e (record { case = refl; output = h })
 
 -- The outcome by another name.
-pub answered-same : {o o′ : Outcome} {out exit : List ℕ} {r : Answer} → o′ ≡ o → Answered o out r exit → Answered o′ out r exit
+pub answered-same : {o o′ : Outcome} {out exit : List ℕ} {r : Answer} → o′ ≡ o → Answered o out r exit
+    → Answered o′ out r exit
 answered-same e g = rw e g
 
--- The first group of a call's checks, made by a part of the call that answered r: it refuses the call, or leaves the rest to come.
-pub refused-by : (cs ds : List Check) (n : ℕ) (o : Outcome) (out : List ℕ) {r : Answer} {c : ℕ} → r ≡ answerOf (judged cs (accepted n [])) → r ≡ Refused c
+-- The first group of a call's checks, made by a part of the call that answered r: it refuses the
+-- call, or leaves the rest to come.
+pub refused-by : (cs ds : List Check) (n : ℕ) (o : Outcome) (out : List ℕ) {r : Answer} {c : ℕ}
+    → r ≡ answerOf (judged cs (accepted n [])) → r ≡ Refused c
     → Answered (judged (cs ++ ds) o) out r out
 refused-by cs ds n o out e h = rw h (answered-refused out (stopped-first cs ds n o (sym h ∙ e)))
 
-pub passed-by : {cs : List Check} (ds : List Check) (o : Outcome) {out exit : List ℕ} {r : Answer} → AllPass cs → Answered (judged ds o) out r exit → Answered (judged (cs ++ ds) o) out r exit
+pub passed-by : {cs : List Check} (ds : List Check) (o : Outcome) {out exit : List ℕ} {r : Answer} → AllPass cs
+    → Answered (judged ds o) out r exit → Answered (judged (cs ++ ds) o) out r exit
 passed-by {cs} ds o p g = answered-same (passed-first cs ds o p) g

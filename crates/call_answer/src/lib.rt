@@ -3,7 +3,8 @@ ghost use mathlib.Core.Path.{_≡_};
 ghost use Rattle.call_answer.specs.Answer.{numberOf};
 
 pub enum Answer {
-    // The count: words written, 1 for a block, the records of a book, the bytes of a note, the lines of a page.
+    // The count: words written, 1 for a block, the records of a book, the bytes of a note, the
+    // lines of a page.
     Accepted(u64),
     // The number of the first check that failed.
     Refused(u32),

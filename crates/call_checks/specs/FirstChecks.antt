@@ -22,9 +22,11 @@ module _ (k : Check) (way : ℕ) (ds : List Check) (o : Outcome) (out : List ℕ
   module _ {t : Bool} (p : AllPass (k ∷ [])) (e : t ≡ (eqb way 1 || eqb way 2 || eqb way 3)) where
     pub way-refuses : not t ≡ true → Answered (judged (k ∷ wayCheck way ∷ ds) o) out (Refused 2) out
     unfolding wayCheck
-    way-refuses h = answered-refused out (passed-first (k ∷ []) (wayCheck way ∷ ds) o p ∙ judged-false (sym e ∙ not-true t h) 2 ds o)
+    way-refuses h = answered-refused out (passed-first (k ∷ []) (wayCheck way ∷ ds) o p
+        ∙ judged-false (sym e ∙ not-true t h) 2 ds o)
 
     pub way-passes : not t ≡ false → {r : Answer} {exit : List ℕ} → Answered (judged ds o) out r exit
         → Answered (judged (k ∷ wayCheck way ∷ ds) o) out r exit
     unfolding wayCheck
-    way-passes h g = answered-same (passed-first (k ∷ []) (wayCheck way ∷ ds) o p ∙ judged-true (sym e ∙ not-false t h) 2 ds o) g
+    way-passes h g = answered-same (passed-first (k ∷ []) (wayCheck way ∷ ds) o p
+        ∙ judged-true (sym e ∙ not-false t h) 2 ds o) g

@@ -14,14 +14,20 @@ use Rattle.planbook_spec.specs.Checks.{outputCheck, constantCount, constantsCal
 use Rattle.planbook_laws.specs.CheckLaws.{key-accepted, key-refused}
 
 pub constants-checked : {n : ℕ} (out : List ℕ) → KeyLength n
-    → constantsCall n out ≡ judged (outputCheck (4 * length (constants n)) out ∷ []) (accepted (length (constants n)) (bytesOf (constants n)))
+    → constantsCall n out ≡ judged (outputCheck (4 * length (constants n)) out ∷ [])
+    (accepted (length (constants n)) (bytesOf (constants n)))
 unfolding constantsCall constantCount
-constants-checked {n} out k = key-accepted _ _ k ∙ ap (λ (m : ℕ). judged (outputCheck (4 * m) out ∷ []) (accepted m (bytesOf (constants n)))) (sym (length-constants k))
+constants-checked {n} out k = key-accepted _ _ k
+    ∙ ap (λ (m : ℕ). judged (outputCheck (4 * m) out ∷ []) (accepted m (bytesOf (constants n))))
+    (sym (length-constants k))
 
-pub answered-constants : {n keyLength : ℕ} {ws out exit : List ℕ} {r : Answer} → KeyLength n → keyLength ≡ n → ws ≡ constants n
-    → Answered (judged (outputCheck (4 * length ws) out ∷ []) (accepted (length ws) (bytesOf ws))) out r exit → Answered (constantsCall keyLength out) out r exit
+pub answered-constants : {n keyLength : ℕ} {ws out exit : List ℕ} {r : Answer} → KeyLength n → keyLength ≡ n
+    → ws ≡ constants n
+    → Answered (judged (outputCheck (4 * length ws) out ∷ []) (accepted (length ws) (bytesOf ws))) out r exit
+    → Answered (constantsCall keyLength out) out r exit
 answered-constants {out = out} k s e g = rw (s, constants-checked out k, ← e) g
 
-pub constants-refused : (keyLength : ℕ) (out : List ℕ) → keyLength ≢ 16 → keyLength ≢ 24 → keyLength ≢ 32 → constantsCall keyLength out ≡ refused 1
+pub constants-refused : (keyLength : ℕ) (out : List ℕ) → keyLength ≢ 16 → keyLength ≢ 24 → keyLength ≢ 32
+    → constantsCall keyLength out ≡ refused 1
 unfolding constantsCall
 constants-refused keyLength out a b c = key-refused _ _ keyLength a b c

@@ -1,4 +1,5 @@
--- What the call that expands a key cites: how many words a permitted key has, and the words of a key written.
+-- What the call that expands a key cites: how many words a permitted key has, and the words of a
+-- key written.
 use Prim.Native.Nat.{ℕ, _*_, _≤_}
 use mathlib.Core.List.{List, [], _∷_}
 use mathlib.Core.Path.{_≡_}
@@ -35,10 +36,13 @@ key-passed key {n} e =
 
 -- What is left of the call once checks 1 and 2 are passed.
 unfoldable pub expandedCall : List ℕ → List ℕ → Outcome
-expandedCall key out = judged (outputCheck (4 * expandedCount (length key)) out ∷ []) (accepted (expandedCount (length key)) (bytesOf (expandKey key)))
+expandedCall key out = judged (outputCheck (4 * expandedCount (length key)) out ∷ [])
+    (accepted (expandedCount (length key)) (bytesOf (expandKey key)))
 
 -- The words w of a key, written as what they are.
-pub answered-expanded : (key : List ℕ) {w : List ℕ} (out : List ℕ) {exit : List ℕ} {r : Answer} → w ≡ expandKey key → length w ≡ byKeyLength (length key) 40 48 56
-    → Answered (judged (outputCheck (4 * length w) out ∷ []) (accepted (length w) (bytesOf w))) out r exit → Answered (expandedCall key out) out r exit
+pub answered-expanded : (key : List ℕ) {w : List ℕ} (out : List ℕ) {exit : List ℕ} {r : Answer} → w ≡ expandKey key
+    → length w ≡ byKeyLength (length key) 40 48 56
+    → Answered (judged (outputCheck (4 * length w) out ∷ []) (accepted (length w) (bytesOf w))) out r exit
+    → Answered (expandedCall key out) out r exit
 unfolding expandedCall expandedCount
 answered-expanded key out e l g = rw (← e, ← l) g

@@ -1,4 +1,5 @@
-// The call that expands a key: checks 1 and 2, the tables fetched, the words, and check 4 before they are written.
+// The call that expands a key: checks 1 and 2, the tables fetched, the words, and check 4 before
+// they are written.
 ghost use mathlib.Core.Path.{_≡_};
 ghost use lib.ListN.{length};
 ghost use Rattle.clefia_spec.specs.Words.{byKeyLength, KeyLength};
@@ -19,18 +20,21 @@ fn write_expanded(
     requires { ⌜ ValidTables (now «word_tables») (now «byte_tables») ⌝ }
     requires { ⌜ KeyLength (length (now key)) ⌝ }
     requires { ⌜ length (now expanded) ≡ byKeyLength (length (now key)) 40 48 56 ⌝ }
-    ensures { λ r. ⌜ Answered (expandedCall (now (key .entry)) (now (out .entry))) (now (out .entry)) r (now (out .exit)) ⌝ }
+    ensures { λ r. ⌜ Answered (expandedCall (now (key .entry)) (now (out .entry))) (now (out .entry)) r
+        (now (out .exit)) ⌝ }
 {
-    // Lent on as parts, as in call_tasks::perform.
+    // Passed on as parts, as in call_tasks::perform.
     cipher_key_schedule::expand_key(&word_tables[..], &byte_tables[..], key, expanded);
     call_checks::write_words(expanded, out)
 }
 
-// The same with the tables that the way reads, each fetched where it is lent: a table costs a copy. In place of the others nothing is lent.
+// The same with the tables that the way reads, each fetched where it is passed: a table costs a
+// copy. The others are passed empty.
 fn write_by(way: u64, key: &[u8], expanded: &mut [u32], out: &mut [u8]) -> Answer
     requires { ⌜ KeyLength (length (now key)) ⌝ }
     requires { ⌜ length (now expanded) ≡ byKeyLength (length (now key)) 40 48 56 ⌝ }
-    ensures { λ r. ⌜ Answered (expandedCall (now (key .entry)) (now (out .entry))) (now (out .entry)) r (now (out .exit)) ⌝ }
+    ensures { λ r. ⌜ Answered (expandedCall (now (key .entry)) (now (out .entry))) (now (out .entry)) r
+        (now (out .exit)) ⌝ }
 {
     if way == 2 {
         return write_expanded(&cipher_word_tables::all(), &[], key, expanded, out);
@@ -48,7 +52,8 @@ fn write_by(way: u64, key: &[u8], expanded: &mut [u32], out: &mut [u8]) -> Answe
 }
 
 pub fn expand_key(key: &[u8], way: u64, out: &mut [u8]) -> Answer
-    ensures { λ r. ⌜ Answered (expandKeyCall (now (key .entry)) way (now (out .entry))) (now (out .entry)) r (now (out .exit)) ⌝ }
+    ensures { λ r. ⌜ Answered (expandKeyCall (now (key .entry)) way (now (out .entry))) (now (out .entry)) r
+        (now (out .exit)) ⌝ }
 {
     let checked = call_checks::check_key(key);
     let Answer::Accepted(count) = checked else {
@@ -59,6 +64,6 @@ pub fn expand_key(key: &[u8], way: u64, out: &mut [u8]) -> Answer
     }
     let n = count as usize;
     let mut expanded = [0u32; 56];
-    // Lent on as parts, as in call_tasks::perform.
+    // Passed on as parts, as in call_tasks::perform.
     write_by(way, &key[..], &mut expanded[..n], out)
 }

@@ -1,4 +1,4 @@
-// What each call that takes words does, under tables that are lent.
+// What each call that takes words does, once they are read and the tables are fetched.
 ghost use Rattle.cipher_ffunction.specs.Tables.{CipherReady};
 ghost use Rattle.call_answer.specs.Answer.{Answered};
 ghost use Rattle.call_tasks.specs.Tasks.{under};
@@ -13,8 +13,9 @@ pub enum Task {
     CryptNote,
 }
 
-// The task done under the words w, with the tables `words` and `bytes` that are lent. `iv` is the block that a mode of operation starts from, where it is
-// lent beside the input: the counter block of a note. A book has its own in its contents.
+// The task done under an expanded key. `iv` is the block that a mode of operation starts from,
+// where it is given beside the input: the counter block of a note. A book has its own in its
+// contents.
 pub fn perform(
     task: Task,
     word_tables: &[[u32; 256]],
@@ -25,9 +26,10 @@ pub fn perform(
     out: &mut [u8],
 ) -> Answer
     requires { ⌜ CipherReady (now «word_tables») (now «byte_tables») (now expanded) ⌝ }
-    ensures { λ r. ⌜ Answered (under task (now (expanded .entry)) (now (iv .entry)) (now (src .entry)) (now (out .entry))) (now (out .entry)) r (now (out .exit)) ⌝ }
+    ensures { λ r. ⌜ Answered (under task (now (expanded .entry)) (now (iv .entry)) (now (src .entry))
+        (now (out .entry))) (now (out .entry)) r (now (out .exit)) ⌝ }
 {
-    // Lent on as parts, the slices stay in registers (DECISIONS).
+    // Passed on as parts, the slices stay in registers (DECISIONS, "`call_tasks::perform` passes").
     let wt = &word_tables[..];
     let bt = &byte_tables[..];
     let ex = &expanded[..];

@@ -35,8 +35,10 @@ words-passed words {n} e =
     sizes fortyEight = (refl, lit≤ tt, lit≤ tt)
     sizes fiftySix = (refl, lit≤ tt, lit≤ tt)
 
--- A task done under words that were read into n places, four bytes to each, is done under the words lent.
-pub answered-read : (task : Task) (words : List ℕ) (n : ℕ) {w : List ℕ} (iv src out : List ℕ) {exit : List ℕ} {r : Answer} → length words ≡ 4 * n → w ≡ wordsOf n words
+-- A task done under words that were read into n places, four bytes to each, is done under the words
+-- given.
+pub answered-read : (task : Task) (words : List ℕ) (n : ℕ) {w : List ℕ} (iv src out : List ℕ) {exit : List ℕ}
+    {r : Answer} → length words ≡ 4 * n → w ≡ wordsOf n words
     → Answered (under task w iv src out) out r exit → Answered (under task (wordsFromBytes words) iv src out) out r exit
 unfolding wordsFromBytes
 answered-read task words n iv src out l e g = let q : length words / 4 ≡ n = omega (arith, l) in rw (q, ← e) g

@@ -1,4 +1,5 @@
-// The calls that take words, below the border: checks 14 and 2, the words read, the tables fetched, the task done. The answer is an enum.
+// The calls that take words, below the border: checks 14 and 2, the words read, the tables fetched,
+// the task done. The answer is an enum.
 ghost use mathlib.Core.Path.{_≡_};
 ghost use lib.ListN.{length};
 ghost use Prim.Native.Nat.{_*_, _≤_};
@@ -9,8 +10,8 @@ use call_answer::Answer;
 use call_tasks::Task;
 use call_tasks::perform;
 
-// The words read into w, and the task done under them with the tables that the way reads, each fetched where it is lent: a table costs a copy. In place
-// of the others nothing is lent.
+// The words read, and the task done under them with the tables that the way reads, each fetched
+// where it is passed: a table costs a copy. The others are passed empty.
 fn perform_by(
     task: Task,
     way: u64,
@@ -22,7 +23,8 @@ fn perform_by(
 ) -> Answer
     requires { ⌜ length (now words) ≡ 4 * length (now expanded) ⌝ }
     requires { ⌜ 4 ≤ length (now expanded) ⌝ }
-    ensures { λ r. ⌜ Answered (under task (wordsFromBytes (now (words .entry))) (now (iv .entry)) (now (src .entry)) (now (out .entry))) (now (out .entry)) r (now (out .exit)) ⌝ }
+    ensures { λ r. ⌜ Answered (under task (wordsFromBytes (now (words .entry))) (now (iv .entry)) (now (src .entry))
+        (now (out .entry))) (now (out .entry)) r (now (out .exit)) ⌝ }
 {
     cipher_bytes::load_all(expanded, words);
     if way == 2 {
@@ -52,7 +54,8 @@ fn perform_by(
 
 // Every call that takes words: checks 14 and 2, and then its task.
 pub fn call(task: Task, words: &[u8], way: u64, iv: &[u8], src: &[u8], out: &mut [u8]) -> Answer
-    ensures { λ r. ⌜ Answered (taskCall task (now (words .entry)) way (now (iv .entry)) (now (src .entry)) (now (out .entry))) (now (out .entry)) r (now (out .exit)) ⌝ }
+    ensures { λ r. ⌜ Answered (taskCall task (now (words .entry)) way (now (iv .entry)) (now (src .entry))
+        (now (out .entry))) (now (out .entry)) r (now (out .exit)) ⌝ }
 {
     let checked = call_checks::check_words(words);
     let Answer::Accepted(count) = checked else {
@@ -63,7 +66,7 @@ pub fn call(task: Task, words: &[u8], way: u64, iv: &[u8], src: &[u8], out: &mut
     }
     let n = count as usize;
     let mut expanded = [0u32; 56];
-    // Lent on as parts, as in call_tasks::perform.
+    // Passed on as parts, as in call_tasks::perform.
     perform_by(
         task,
         way,

@@ -1,4 +1,5 @@
-// One block of 16 bytes, encrypted and decrypted under expanded words. (Document 01's terms are sealing and opening a block.)
+// One block of 16 bytes, encrypted and decrypted under expanded words. (Document 01's terms are
+// sealing and opening a block.)
 ghost use mathlib.Core.Path.{_≡_};
 ghost use Prim.Native.Nat.{_-_, _/_, _≤_};
 ghost use lib.ListN.{length};

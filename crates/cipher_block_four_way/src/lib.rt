@@ -67,7 +67,7 @@ pub fn decrypt_each(
     whiten_each(expanded[0], expanded[1], t)
 }
 
-// The four blocks that stand at `at` of a body, decrypted and not yet added to those before them.
+// The four blocks at `at` of a body, decrypted and not yet added to those before them.
 pub fn decrypt_four(
     word_tables: &[[u32; 256]],
     byte_tables: &[[u8; 256]],

@@ -46,11 +46,14 @@ unfolding putFour
 four-stores s i a b c d h = simp towards-suc (simp towards-suc at (sets-eq (a ∷ b ∷ c ∷ d ∷ []) s i h))
 
 -- The list up to the end of four elements that were put.
-pub take-putFour : (s : List ℕ) (i : ℕ) (p : List ℕ) → length p ≡ 4 → i + 4 ≤ length s → take (i + 4) (putFour s i p) ≡ take i s ++ p
+pub take-putFour : (s : List ℕ) (i : ℕ) (p : List ℕ) → length p ≡ 4 → i + 4 ≤ length s
+    → take (i + 4) (putFour s i p) ≡ take i s ++ p
 unfolding putFour
-take-putFour s i p e h = take-at (take i s ++ p) (drop (i + 4) s) (i + 4) (length-append (take i s) p ∙ omega (arith, length-take-le i s (omega arith)))
+take-putFour s i p e h = take-at (take i s ++ p) (drop (i + 4) s) (i + 4)
+    (length-append (take i s) p ∙ omega (arith, length-take-le i s (omega arith)))
 
-pub length-putFour : (s : List ℕ) (i : ℕ) (p : List ℕ) → length p ≡ 4 → i + 4 ≤ length s → length (putFour s i p) ≡ length s
+pub length-putFour : (s : List ℕ) (i : ℕ) (p : List ℕ) → length p ≡ 4 → i + 4 ≤ length s
+    → length (putFour s i p) ≡ length s
 unfolding putFour
 length-putFour s i p e h = simp (length-append, length-take, length-drop) (omega arith)
 
@@ -64,25 +67,30 @@ pub fill-end : (s : List ℕ) (i : ℕ) (whole : List ℕ) → length s ≤ i �
 fill-end s i whole h w = sym (take-all i s h) ∙ sym (append-nil (take i s)) ∙ w
 
 -- The same one by one.
-pub fill-one : (i : ℕ) (s whole : List ℕ) → i < length s → i < length whole → take i s ≡ take i whole → take (i + 1) (set s i (getD whole i 0)) ≡ take (i + 1) whole
+pub fill-one : (i : ℕ) (s whole : List ℕ) → i < length s → i < length whole → take i s ≡ take i whole
+    → take (i + 1) (set s i (getD whole i 0)) ≡ take (i + 1) whole
 fill-one i s whole h k e =
-    rw add-one (take-suc-set s i (getD whole i 0) h ∙ ap (λ (l : List ℕ). l ++ (getD whole i 0 ∷ [])) e ∙ sym (take-suc whole i 0 k))
+    rw add-one (take-suc-set s i (getD whole i 0) h ∙ ap (λ (l : List ℕ). l ++ (getD whole i 0 ∷ [])) e
+    ∙ sym (take-suc whole i 0 k))
 
 -- The same for a part of any length, as a call that filled it returns it: what is before its end.
 pub fill-part : (at n : ℕ) (out part rest : List ℕ) {whole : List ℕ} → length part ≡ n → at + n ≤ length out
     → take at out ++ (part ++ rest) ≡ whole → take (at + n) (putMid at (at + n - at) out part) ++ rest ≡ whole
 fill-part at n out part rest {whole} l h e =
-    let front : length (take at out ++ part) ≡ at + n = length-append (take at out) part ∙ omega (arith, length-take-le at out (omega arith)) in
+    let front : length (take at out ++ part) ≡ at + n = length-append (take at out) part
+    ∙ omega (arith, length-take-le at out (omega arith)) in
     ap (λ (x : List ℕ). take (at + n) x ++ rest) (sym (append-assoc (take at out) part _))
     ∙ ap (λ (x : List ℕ). x ++ rest) (take-at (take at out ++ part) _ (at + n) front)
     ∙ append-assoc (take at out) part rest ∙ e
 
-pub length-part : (at n : ℕ) (out part : List ℕ) → length part ≡ n → at + n ≤ length out → length (putMid at (at + n - at) out part) ≡ length out
+pub length-part : (at n : ℕ) (out part : List ℕ) → length part ≡ n → at + n ≤ length out
+    → length (putMid at (at + n - at) out part) ≡ length out
 length-part at n out part l h =
     same-len-mid at (at + n - at) out part (l ∙ sym (mid-len at (at + n) out h ∙ omega arith))
 
 -- The bytes of a list of words from place i on: those of the word there, and of the rest.
-pub bytes-step : (s : List ℕ) (i : ℕ) → i < length s → bytesOf (drop i s) ≡ toDigits 256 4 (getD s i 0) ++ bytesOf (drop (i + 1) s)
+pub bytes-step : (s : List ℕ) (i : ℕ) → i < length s
+    → bytesOf (drop i s) ≡ toDigits 256 4 (getD s i 0) ++ bytesOf (drop (i + 1) s)
 unfolding digitsOf
 bytes-step s i h = rw (add-one, drop-cons s i 0)
 
@@ -91,7 +99,8 @@ unfoldable pub wordAt : List ℕ → ℕ → ℕ
 wordAt s i = fromDigits 256 (take 4 (drop i s))
 
 -- Four words that follow each other, each at its place.
-pub four-words : (s : List ℕ) (i : ℕ) → wordsOf 4 (drop i s) ≡ wordAt s i ∷ wordAt s (i + 4) ∷ wordAt s (i + 8) ∷ wordAt s (i + 12) ∷ []
+pub four-words : (s : List ℕ) (i : ℕ) → wordsOf 4 (drop i s) ≡ wordAt s i ∷ wordAt s (i + 4) ∷ wordAt s (i + 8)
+    ∷ wordAt s (i + 12) ∷ []
 unfolding wordAt numbersOf
 four-words s i = simp (drop-drop, add-assoc)
 

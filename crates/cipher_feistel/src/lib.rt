@@ -30,7 +30,8 @@ pub fn feistel4(
     s: [u32; 4],
 ) -> [u32; 4]
     requires { ⌜ ValidTables (now «word_tables») (now «byte_tables») ⌝ }
-    ensures { λ r. ⌜ ((expanded : List ℕ) (i : ℕ) → a ≡ getD expanded i 0 → b ≡ getD expanded (i + 1) 0 → r ≡ feistel f0 f1 expanded i s) ⌝ }
+    ensures { λ r. ⌜ ((expanded : List ℕ) (i : ℕ) → a ≡ getD expanded i 0 → b ≡ getD expanded (i + 1) 0
+        → r ≡ feistel f0 f1 expanded i s) ⌝ }
 {
     let y = cipher_ffunction::f0(word_tables, byte_tables, a, s[0], s[1]);
     let z = cipher_ffunction::f1(word_tables, byte_tables, b, s[2], s[3]);
@@ -46,7 +47,8 @@ pub fn feistel4_f1_first(
     s: [u32; 4],
 ) -> [u32; 4]
     requires { ⌜ ValidTables (now «word_tables») (now «byte_tables») ⌝ }
-    ensures { λ r. ⌜ ((expanded : List ℕ) (i : ℕ) → a ≡ getD expanded i 0 → b ≡ getD expanded (i + 1) 0 → r ≡ feistel f0 f1 expanded i s) ⌝ }
+    ensures { λ r. ⌜ ((expanded : List ℕ) (i : ℕ) → a ≡ getD expanded i 0 → b ≡ getD expanded (i + 1) 0
+        → r ≡ feistel f0 f1 expanded i s) ⌝ }
 {
     let v = cipher_ffunction::f1(word_tables, byte_tables, b, s[2], s[3]);
     let u = cipher_ffunction::f0(word_tables, byte_tables, a, s[0], s[1]);

@@ -1,4 +1,5 @@
--- A matrix times four bytes is the sum of its columns, each times its byte: what the word tables rest on.
+-- A matrix times four bytes is the sum of its columns, each times its byte: what the word tables
+-- rest on.
 use Prim.Native.Nat.{ℕ, zero, suc, _+_, _*_, _/_, _%_, _<_}
 use native.Mathlib.Nat.{div-one, le-of-suc-le-suc, not-suc-le-zero}
 use native.Mathlib.Omega.{arith}
@@ -18,7 +19,8 @@ use Rattle.cipher_sbox.specs.Boxes.{box}
 use Rattle.cipher_ffunction.specs.Tables.{matrix, mix, columnTimes, column, wordTable, wordTables}
 
 columnBytes : List ℕ → ℕ → ℕ → List ℕ
-columnBytes m j y = product y (matrixEntry m 0 j) ∷ product y (matrixEntry m 1 j) ∷ product y (matrixEntry m 2 j) ∷ product y (matrixEntry m 3 j) ∷ []
+columnBytes m j y = product y (matrixEntry m 0 j) ∷ product y (matrixEntry m 1 j) ∷ product y (matrixEntry m 2 j)
+    ∷ product y (matrixEntry m 3 j) ∷ []
 
 below-column : (m : List ℕ) (j y : ℕ) → y < 256 → Below 256 (columnBytes m j y)
 unfolding columnBytes
@@ -55,28 +57,36 @@ box-lt (suc i) x = s1-lt x
 
 -- F0 and F1 by columns.
 pub mix-columns : (f z : ℕ) → f < 2
-    → mix f z ≡ column f 0 (z / 16777216 % 256) ⊕ column f 1 (z / 65536 % 256) ⊕ column f 2 (z / 256 % 256) ⊕ column f 3 (z % 256)
+    → mix f z ≡ column f 0 (z / 16777216 % 256) ⊕ column f 1 (z / 65536 % 256) ⊕ column f 2 (z / 256 % 256) ⊕ column f 3
+    (z % 256)
 unfolding mix column toDigits substitute
-mix-columns zero z h = rw (div-one z) (matrixTimes-columns (matrix 0) _ _ _ _ (box-lt 0 _) (box-lt 1 _) (box-lt 0 _) (box-lt 1 _))
-mix-columns (suc zero) z h = rw (div-one z) (matrixTimes-columns (matrix 1) _ _ _ _ (box-lt 1 _) (box-lt 0 _) (box-lt 1 _) (box-lt 0 _))
+mix-columns zero z h = rw (div-one z) (matrixTimes-columns (matrix 0) _ _ _ _ (box-lt 0 _) (box-lt 1 _) (box-lt 0 _)
+    (box-lt 1 _))
+mix-columns (suc zero) z h = rw (div-one z)
+    (matrixTimes-columns (matrix 1) _ _ _ _ (box-lt 1 _) (box-lt 0 _) (box-lt 1 _) (box-lt 0 _))
 mix-columns (suc (suc f)) z h = absurd (not-suc-le-zero (le-of-suc-le-suc (le-of-suc-le-suc h)))
 
 -- The same sum in another order.
 last-first : (a b c d : ℕ) → d ⊕ c ⊕ a ⊕ b ≡ a ⊕ b ⊕ c ⊕ d
 last-first a b c d =
-    xor-assoc (d ⊕ c) a b ∙ xor-comm (d ⊕ c) (a ⊕ b) ∙ ap (λ (x : ℕ). a ⊕ b ⊕ x) (xor-comm d c) ∙ sym (xor-assoc (a ⊕ b) c d)
+    xor-assoc (d ⊕ c) a b ∙ xor-comm (d ⊕ c) (a ⊕ b) ∙ ap (λ (x : ℕ). a ⊕ b ⊕ x) (xor-comm d c)
+    ∙ sym (xor-assoc (a ⊕ b) c d)
 
 columns-mix : (f z : ℕ) → f < 2
-    → column f 3 (z % 256) ⊕ column f 2 (z / 256 % 256) ⊕ column f 0 (z / 16777216 % 256) ⊕ column f 1 (z / 65536 % 256) ≡ mix f z
+    → column f 3 (z % 256) ⊕ column f 2 (z / 256 % 256) ⊕ column f 0 (z / 16777216 % 256) ⊕ column f 1 (z / 65536 % 256)
+    ≡ mix f z
 columns-mix f z h =
-    last-first (column f 0 (z / 16777216 % 256)) (column f 1 (z / 65536 % 256)) (column f 2 (z / 256 % 256)) (column f 3 (z % 256))
+    last-first (column f 0 (z / 16777216 % 256)) (column f 1 (z / 65536 % 256)) (column f 2 (z / 256 % 256))
+    (column f 3 (z % 256))
     ∙ sym (mix-columns f z h)
 
 -- The same added to a word, one after the other.
 pub columns-added : (f z y : ℕ) → f < 2
-    → y ⊕ column f 3 (z % 256) ⊕ column f 2 (z / 256 % 256) ⊕ column f 0 (z / 16777216 % 256) ⊕ column f 1 (z / 65536 % 256) ≡ y ⊕ mix f z
+    → y ⊕ column f 3 (z % 256) ⊕ column f 2 (z / 256 % 256) ⊕ column f 0 (z / 16777216 % 256) ⊕ column f 1
+    (z / 65536 % 256) ≡ y ⊕ mix f z
 columns-added f z y h =
-    added y (column f 3 (z % 256)) (column f 2 (z / 256 % 256)) (column f 0 (z / 16777216 % 256)) (column f 1 (z / 65536 % 256))
+    added y (column f 3 (z % 256)) (column f 2 (z / 256 % 256)) (column f 0 (z / 16777216 % 256))
+    (column f 1 (z / 65536 % 256))
     ∙ ap (λ (x : ℕ). y ⊕ x) (columns-mix f z h)
   where
     added : (y a b c d : ℕ) → y ⊕ a ⊕ b ⊕ c ⊕ d ≡ y ⊕ (a ⊕ b ⊕ c ⊕ d)
@@ -86,7 +96,7 @@ pub length-wordTables : length wordTables ≡ 8
 unfolding wordTables
 length-wordTables = length-values wordTable 0 8
 
--- What stands in a word table.
+-- What is in a word table.
 pub word-at : (f j x : ℕ) → f < 2 → j < 4 → x < 256 → getD (getD wordTables (4 * f + j) []) x 0 ≡ column f j x
 unfolding wordTables wordTable
 word-at f j x hf hj hx =

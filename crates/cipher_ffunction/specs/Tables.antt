@@ -17,7 +17,8 @@ unfoldable pub matrix : ℕ → List ℕ
 matrix zero = m0
 matrix (suc f) = m1
 
--- F0 (f is 0) or F1 (f is 1) after the round key is added: the boxes by turns, beginning with number f, and the matrix.
+-- F0 (f is 0) or F1 (f is 1) after the round key is added: the boxes alternately, beginning with
+-- number f, and the matrix.
 unfoldable pub mix : ℕ → ℕ → ℕ
 mix f z = matrixTimes (matrix f) (substitute (box f) (box (1 - f)) (toDigits 256 4 z))
 
@@ -32,9 +33,11 @@ mix-f1 k x = refl
 -- Column j of a matrix times a byte, as a word.
 unfoldable pub columnTimes : List ℕ → ℕ → ℕ → ℕ
 columnTimes m j y =
-    fromDigits 256 (product y (matrixEntry m 0 j) ∷ product y (matrixEntry m 1 j) ∷ product y (matrixEntry m 2 j) ∷ product y (matrixEntry m 3 j) ∷ [])
+    fromDigits 256 (product y (matrixEntry m 0 j) ∷ product y (matrixEntry m 1 j) ∷ product y (matrixEntry m 2 j)
+    ∷ product y (matrixEntry m 3 j) ∷ [])
 
--- What byte j of the input adds to the result: its column times the byte substituted by the box that F0 or F1 has there.
+-- What byte j of the input adds to the result: its column times the byte substituted by the box
+-- that F0 or F1 has there.
 unfoldable pub column : ℕ → ℕ → ℕ → ℕ
 column f j x = columnTimes (matrix f) j (box ((f + j) % 2) x)
 
@@ -45,13 +48,14 @@ wordTable t = values (column (t / 4) (t % 4)) 0 256
 unfoldable pub wordTables : List (List ℕ)
 wordTables = values wordTable 0 8
 
--- The tables that a caller lends: all of a kind, or none of it. Where the word tables are lent they are read (way 2), else the byte tables (way 1), and
--- where neither is lent the rules are worked out (way 3). The result is the same.
+-- The tables that a caller passes: all of a kind, or none of it. Where the word tables are passed
+-- they are read (way 2), else the byte tables (way 1), and without either the rules are worked out
+-- (way 3). The result is the same.
 pub record ValidTables (ws bs : List (List ℕ)) : Type 0 where
   pub word-tables : length ws ≡ 8 → ws ≡ wordTables
   pub byte-tables : length bs ≡ 2 → bs ≡ byteTables
 
--- What a call lends: the word tables alone, the byte tables alone, or none.
+-- What a call passes: the word tables alone, the byte tables alone, or none.
 not-empty : (n : ℕ) {A : Type 0} → 0 < n → 0 ≡ n → A
 not-empty n h e = let z : ⊥ = omega (arith, h, e) in absurd z
 

@@ -22,7 +22,9 @@ fn column(word_tables: &[[u32; 256]], f: usize, j: usize, x: usize) -> u32
     word_tables[4 * f + j][x]
 }
 
-// F0 (f is 0) or F1 (f is 1) after the round key is added, by word tables: one entry for each byte, added to y. A round waits for the sum: what is known first is added first (DECISIONS).
+// F0 (f is 0) or F1 (f is 1) after the round key is added, by word tables: one entry for each byte,
+// added to y. A round waits for the sum: what is known first is added first (DECISIONS, "F adds its
+// result").
 pub fn by_word_tables(word_tables: &[[u32; 256]], f: usize, z: u32, y: u32) -> u32
     requires { ⌜ f < 2 ⌝ }
     requires { ⌜ now «word_tables» ≡ wordTables ⌝ }
@@ -35,7 +37,8 @@ pub fn by_word_tables(word_tables: &[[u32; 256]], f: usize, z: u32, y: u32) -> u
         ^ column(word_tables, f, 1, (z / 65536 % 256) as usize)
 }
 
-// The four bytes of a word through the boxes by turns, beginning with box i: by the lent tables, and by the rules.
+// The four bytes of a word through the boxes alternately, beginning with box i: by the byte tables,
+// and by the rules.
 fn substitute_by_tables(byte_tables: &[[u8; 256]], i: usize, z: u32) -> [u8; 4]
     requires { ⌜ i < 2 ⌝ }
     requires { ⌜ now «byte_tables» ≡ byteTables ⌝ }
@@ -63,12 +66,14 @@ fn substitute_by_rules(i: usize, z: u32) -> [u8; 4]
 
 // A row of a matrix, a b c d, times four bytes.
 fn matrix_row(a: u8, b: u8, c: u8, d: u8, y: [u8; 4]) -> u8
-    ensures { λ r. ⌜ r ≡ product (getD y 0 0) a ⊕ product (getD y 1 0) b ⊕ product (getD y 2 0) c ⊕ product (getD y 3 0) d ⌝ }
+    ensures { λ r. ⌜ r ≡ product (getD y 0 0) a ⊕ product (getD y 1 0) b ⊕ product (getD y 2 0) c ⊕ product
+        (getD y 3 0) d ⌝ }
 {
     product(y[0], a) ^ product(y[1], b) ^ product(y[2], c) ^ product(y[3], d)
 }
 
-// The matrix with the first row a b c d times four bytes. Row i holds the same entries in another order: at column j stands the one at i ^ j.
+// The matrix with the first row a b c d times four bytes. Row i holds the same entries in another
+// order: at column j is the one at i ^ j.
 fn matrix_times(a: u8, b: u8, c: u8, d: u8, y: [u8; 4]) -> u32
     ensures { λ r. ⌜ r ≡ matrixTimes (a ∷ b ∷ c ∷ d ∷ []) y ⌝ }
 {
@@ -80,8 +85,9 @@ fn matrix_times(a: u8, b: u8, c: u8, d: u8, y: [u8; 4]) -> u32
     )
 }
 
-// F0 (f is 0) or F1 (f is 1) after the round key is added, byte by byte, added to y: by the lent tables, and by the rules. They are two functions all the
-// way, so that the first of them calls nothing (DECISIONS).
+// F0 (f is 0) or F1 (f is 1) after the round key is added, byte by byte, added to y: by the byte
+// tables, and by the rules. They are two functions throughout, so that the first of them calls
+// nothing (DECISIONS, "F by byte tables and F by rules").
 fn by_byte_tables(byte_tables: &[[u8; 256]], f: usize, z: u32, y: u32) -> u32
     requires { ⌜ f < 2 ⌝ }
     requires { ⌜ now «byte_tables» ≡ byteTables ⌝ }
@@ -119,7 +125,8 @@ fn by_rules(f: usize, z: u32, y: u32) -> u32
     }
 }
 
-// Which tables are given decides the way: the word tables (way 2), else the byte tables (way 1), else none (way 3).
+// Which tables are given decides the way: the word tables (way 2), else the byte tables (way 1),
+// else none (way 3).
 pub fn has_word_tables(word_tables: &[[u32; 256]]) -> bool
     ensures { λ r. ⌜ (r ≡ true → length (now («word_tables» .entry)) ≡ 8) ⌝ }
 {

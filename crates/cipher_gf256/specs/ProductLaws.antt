@@ -20,7 +20,8 @@ pub bit-times-le : (q p : ℕ) → q % 2 * p ≤ p
 bit-times-le q p = let h : q % 2 ≤ 1 = omega arith in le-trans (mul-le-mul-right p h) (le-of-eq (one-mul p))
 
 -- One bit of the multiplier taken off.
-pub addProduct-step : (k r p q : ℕ) → 0 < k → addProduct k r p q ≡ addProduct (k - 1) (q % 2 * p ⊕ r) (double8 p) (q / 2)
+pub addProduct-step : (k r p q : ℕ) → 0 < k
+    → addProduct k r p q ≡ addProduct (k - 1) (q % 2 * p ⊕ r) (double8 p) (q / 2)
 unfolding addProduct
 addProduct-step zero r p q h = absurd (not-suc-le-zero h)
 addProduct-step (suc k) r p q h = let e : suc k - 1 ≡ k = omega arith in rw e

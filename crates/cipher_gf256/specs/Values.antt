@@ -14,7 +14,8 @@ valueFrom {ℓ} : {A : Type ℓ} (f : ℕ → A) (i n k : ℕ) (d : A) → k < n
 unfolding values
 valueFrom f i zero k d h = absurd (not-suc-le-zero h)
 valueFrom f i (suc n) zero d h = ap f (sym (add-zero i))
-valueFrom f i (suc n) (suc k) d h = valueFrom f (suc i) n k d (le-of-suc-le-suc h) ∙ ap f (suc-add i k ∙ sym (add-suc i k))
+valueFrom f i (suc n) (suc k) d h = valueFrom f (suc i) n k d (le-of-suc-le-suc h)
+    ∙ ap f (suc-add i k ∙ sym (add-suc i k))
 
 -- The value at place k of the list.
 pub value {ℓ} : {A : Type ℓ} (f : ℕ → A) (n k : ℕ) (d : A) → k < n → getD (values f 0 n) k d ≡ f k
@@ -27,7 +28,8 @@ length-values f i zero = refl
 length-values f i (suc n) = ap suc (length-values f (suc i) n)
 
 -- Functions that agree at these arguments have the same values.
-valuesFrom-ext {ℓ} : {A : Type ℓ} (f g : ℕ → A) (i n : ℕ) → ((k : ℕ) → k < n → f (i + k) ≡ g (i + k)) → values f i n ≡ values g i n
+valuesFrom-ext {ℓ} : {A : Type ℓ} (f g : ℕ → A) (i n : ℕ) → ((k : ℕ) → k < n → f (i + k) ≡ g (i + k))
+    → values f i n ≡ values g i n
 unfolding values
 valuesFrom-ext f g i zero h = refl
 valuesFrom-ext f g i (suc n) h =

@@ -42,7 +42,7 @@ pub fn network4(
 
 // The same rounds undone, the last one first, two in a turn. Here F0 waits for the F1 of the round
 // undone before, and F1 for its F0: worked out in either order alternately, each waits for the last
-// but one (DECISIONS, "Rounds of one row are taken back").
+// but one (DECISIONS, "Rounds of one row are undone").
 pub fn inverse_network4(
     word_tables: &[[u32; 256]],
     byte_tables: &[[u8; 256]],

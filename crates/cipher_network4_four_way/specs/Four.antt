@@ -28,12 +28,14 @@ pub last-key : {w : List ℕ} {i k0 k1 k2 k3 : ℕ} → Keys w i k0 k1 k2 k3 →
 last-key {i = i} k = let p : i + 2 + 1 ≡ i + 3 = omega arith in rw p (k .fourth)
 
 -- Two rounds on a state, and the same two undone.
-pub two-rounds : (w : List ℕ) (i : ℕ) (s : List ℕ) {t u : List ℕ} → t ≡ rotateLeft (feistel f0 f1 w i s) → u ≡ rotateLeft (feistel f0 f1 w (i + 2) t)
+pub two-rounds : (w : List ℕ) (i : ℕ) (s : List ℕ) {t u : List ℕ} → t ≡ rotateLeft (feistel f0 f1 w i s)
+    → u ≡ rotateLeft (feistel f0 f1 w (i + 2) t)
     → u ≡ rounds 2 f0 f1 2 w i s
 unfolding rounds
 two-rounds w i s e f = rw (f, e)
 
-pub two-undone : (w : List ℕ) (i : ℕ) (s : List ℕ) {t u : List ℕ} → t ≡ feistel f0 f1 w (i + 2) (rotateRight s) → u ≡ feistel f0 f1 w i (rotateRight t)
+pub two-undone : (w : List ℕ) (i : ℕ) (s : List ℕ) {t u : List ℕ} → t ≡ feistel f0 f1 w (i + 2) (rotateRight s)
+    → u ≡ feistel f0 f1 w i (rotateRight t)
     → u ≡ undoRounds 2 f0 f1 2 w i s
 unfolding undoRounds
 two-undone w i s e f = rw (f, e)
@@ -45,7 +47,12 @@ unfolding rounds
 two-more n w i s h =
     let e : 2 * (n - 1) ≡ 2 * n - 1 - 1 = omega arith in
     let p : i + 4 ≡ i + 2 + 2 = omega arith in
-    rw (e, p, rounds-step 2 f0 f1 (2 * n - 1) w (i + 2) _ (omega arith), rounds-step 2 f0 f1 (2 * n) w i s (omega arith))
+    rw (
+      e,
+      p,
+      rounds-step 2 f0 f1 (2 * n - 1) w (i + 2) _ (omega arith),
+      rounds-step 2 f0 f1 (2 * n) w i s (omega arith),
+    )
 
 pub two-more-undone : (n : ℕ) (w : List ℕ) (i j : ℕ) (s : List ℕ) → j ≡ i + 4 →
     undoRounds 2 f0 f1 2 w i (undoRounds 2 f0 f1 (2 * n) w j s) ≡ undoRounds 2 f0 f1 (2 * (n + 1)) w i s

@@ -5,7 +5,8 @@ ghost use mathlib.Core.List.{List};
 ghost use Prim.Native.Nat.{ℕ, _+_, _*_, _≤_};
 ghost use lib.ListN.{length, getD};
 ghost use Rattle.clefia_spec.specs.FFunction.{f0, f1};
-ghost use Rattle.clefia_spec.specs.Network.{feistel, rotateLeft, rotateRight, rounds, undoRounds, network4, inverseNetwork4};
+ghost use Rattle.clefia_spec.specs.Network.{feistel, rotateLeft, rotateRight, rounds, undoRounds, network4};
+ghost use Rattle.clefia_spec.specs.Network.{inverseNetwork4};
 ghost use Rattle.cipher_ffunction.specs.Tables.{wordTables, ValidTables};
 ghost use Rattle.cipher_network4_four_way.specs.Four.{each, Keys};
 use cipher_feistel::rotate_left4;
@@ -24,7 +25,8 @@ pub struct FourStates {
 // One round of one state, with the round keys a and b, from whatever list they come.
 fn round_of_state(word_tables: &[[u32; 256]], a: u32, b: u32, s: [u32; 4]) -> [u32; 4]
     requires { ⌜ now «word_tables» ≡ wordTables ⌝ }
-    ensures { λ r. ⌜ ((expanded : List ℕ) (i : ℕ) → a ≡ getD expanded i 0 → b ≡ getD expanded (i + 1) 0 → r ≡ rotateLeft (feistel f0 f1 expanded i s)) ⌝ }
+    ensures { λ r. ⌜ ((expanded : List ℕ) (i : ℕ) → a ≡ getD expanded i 0 → b ≡ getD expanded (i + 1) 0
+        → r ≡ rotateLeft (feistel f0 f1 expanded i s)) ⌝ }
 {
     let y = cipher_ffunction::by_word_tables(word_tables, 0, a ^ s[0], s[1]);
     let z = cipher_ffunction::by_word_tables(word_tables, 1, b ^ s[2], s[3]);
@@ -34,7 +36,8 @@ fn round_of_state(word_tables: &[[u32; 256]], a: u32, b: u32, s: [u32; 4]) -> [u
 // The same round undone: the state is rotated right first.
 fn undo_round_of_state(word_tables: &[[u32; 256]], a: u32, b: u32, s: [u32; 4]) -> [u32; 4]
     requires { ⌜ now «word_tables» ≡ wordTables ⌝ }
-    ensures { λ r. ⌜ ((expanded : List ℕ) (i : ℕ) → a ≡ getD expanded i 0 → b ≡ getD expanded (i + 1) 0 → r ≡ feistel f0 f1 expanded i (rotateRight s)) ⌝ }
+    ensures { λ r. ⌜ ((expanded : List ℕ) (i : ℕ) → a ≡ getD expanded i 0 → b ≡ getD expanded (i + 1) 0
+        → r ≡ feistel f0 f1 expanded i (rotateRight s)) ⌝ }
 {
     let y = cipher_ffunction::by_word_tables(word_tables, 0, a ^ s[3], s[0]);
     let z = cipher_ffunction::by_word_tables(word_tables, 1, b ^ s[1], s[2]);
@@ -52,7 +55,8 @@ fn two_rounds(
     s: FourStates,
 ) -> FourStates
     requires { ⌜ now «word_tables» ≡ wordTables ⌝ }
-    ensures { λ r. ⌜ ((expanded : List ℕ) (i : ℕ) → Keys expanded i k0 k1 k2 k3 → r ≡ each (rounds 2 f0 f1 2 expanded i) s) ⌝ }
+    ensures { λ r. ⌜ ((expanded : List ℕ) (i : ℕ) → Keys expanded i k0 k1 k2 k3
+        → r ≡ each (rounds 2 f0 f1 2 expanded i) s) ⌝ }
 {
     let a = s.a;
     let b = s.b;
@@ -81,7 +85,8 @@ fn undo_two_rounds(
     s: FourStates,
 ) -> FourStates
     requires { ⌜ now «word_tables» ≡ wordTables ⌝ }
-    ensures { λ r. ⌜ ((expanded : List ℕ) (i : ℕ) → Keys expanded i k0 k1 k2 k3 → r ≡ each (undoRounds 2 f0 f1 2 expanded i) s) ⌝ }
+    ensures { λ r. ⌜ ((expanded : List ℕ) (i : ℕ) → Keys expanded i k0 k1 k2 k3
+        → r ≡ each (undoRounds 2 f0 f1 2 expanded i) s) ⌝ }
 {
     let a = s.a;
     let b = s.b;

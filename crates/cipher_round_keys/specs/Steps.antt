@@ -32,7 +32,8 @@ module _ (period base : ℕ) (con : List ℕ) (i : ℕ) (k k′ l l′ : List �
       stepKeys i (fourAt con (base + 4 * i)) (choose t k k′) (choose t l l′)
       ++ roundKeys period base con n (i + 1) k k′ (choose t (doubleSwap l) l) (choose t l′ (doubleSwap l′))
 
-  left : (n : ℕ) (t : Bool) → i < n → ltb (i % period) 2 ≡ t → roundKeys period base con (n - i) i k k′ l l′ ≡ chosen t (n - (i + 1))
+  left : (n : ℕ) (t : Bool) → i < n → ltb (i % period) 2 ≡ t
+      → roundKeys period base con (n - i) i k k′ l l′ ≡ chosen t (n - (i + 1))
   unfolding chosen roundKeys
   left n t h e =
       let m : n - i ≡ suc (n - (i + 1)) = omega arith in
@@ -53,7 +54,8 @@ module _ (period base : ℕ) (con : List ℕ) (n i : ℕ) (k k′ l l′ s whole
     (e : length s ≡ 4 + 4 * n)
     (w : take (4 + 4 * i) s ++ roundKeys period base con (n - i) i k k′ l l′ ≡ whole) where
   pub fill : (t : Bool) → length (choose t l l′) ≡ 4 → ltb (i % period) 2 ≡ t →
-      take (4 + 4 * (i + 1)) (putFour s (4 + 4 * i) (stepKeys i (fourAt con (base + 4 * i)) (choose t k k′) (choose t l l′)))
+      take (4 + 4 * (i + 1)) (putFour s (4 + 4 * i)
+      (stepKeys i (fourAt con (base + 4 * i)) (choose t k k′) (choose t l l′)))
       ++ roundKeys period base con (n - (i + 1)) (i + 1) k k′ (choose t (doubleSwap l) l) (choose t l′ (doubleSwap l′))
       ≡ whole
   unfolding chosen
@@ -66,6 +68,7 @@ module _ (period base : ℕ) (con : List ℕ) (n i : ℕ) (k k′ l l′ s whole
       (rw (left period base con i k k′ l l′ n t h b) at w))
 
 -- No steps are left.
-pub none-left : (period base : ℕ) (con : List ℕ) (n i : ℕ) (k k′ l l′ : List ℕ) → n ≤ i → roundKeys period base con (n - i) i k k′ l l′ ≡ []
+pub none-left : (period base : ℕ) (con : List ℕ) (n i : ℕ) (k k′ l l′ : List ℕ) → n ≤ i
+    → roundKeys period base con (n - i) i k k′ l l′ ≡ []
 unfolding roundKeys
 none-left period base con n i k k′ l l′ h = let z : n - i ≡ 0 = omega arith in rw z

@@ -17,15 +17,19 @@ split-digits b zero k x = ap (λ (n : ℕ). toDigits b n x) (zero-add k)
 split-digits b (suc j) k x =
     ap (λ (n : ℕ). toDigits b n x) (suc-add j k)
     ∙ ap₂ (λ (n : ℕ) (ds : List ℕ). n % b ∷ ds)
-    (ap (λ (n : ℕ). x / n) (ap (λ (n : ℕ). b ^ n) (add-comm j k) ∙ pow-add b k j) ∙ sym (div-div-eq-div-mul x (b ^ k) (b ^ j)))
+    (ap (λ (n : ℕ). x / n) (ap (λ (n : ℕ). b ^ n) (add-comm j k) ∙ pow-add b k j)
+    ∙ sym (div-div-eq-div-mul x (b ^ k) (b ^ j)))
     (split-digits b j k x)
 
 -- The number of two lists of digits, one after the other.
-pub append-digits : (b : ℕ) (xs ys : List ℕ) → fromDigits b (xs ++ ys) ≡ fromDigits b xs * b ^ length ys + fromDigits b ys
+pub append-digits : (b : ℕ) (xs ys : List ℕ)
+    → fromDigits b (xs ++ ys) ≡ fromDigits b xs * b ^ length ys + fromDigits b ys
 unfolding fromDigits
-append-digits b [] ys = sym (ap (λ (n : ℕ). n + fromDigits b ys) (zero-mul (b ^ length ys)) ∙ zero-add (fromDigits b ys))
+append-digits b [] ys = sym (ap (λ (n : ℕ). n + fromDigits b ys) (zero-mul (b ^ length ys))
+    ∙ zero-add (fromDigits b ys))
 append-digits b (x ∷ xs) ys =
-    ap₂ (λ (n m : ℕ). x * n + m) (ap (λ (n : ℕ). b ^ n) (length-append xs ys) ∙ pow-add b (length xs) (length ys)) (append-digits b xs ys)
+    ap₂ (λ (n m : ℕ). x * n + m) (ap (λ (n : ℕ). b ^ n) (length-append xs ys) ∙ pow-add b (length xs) (length ys))
+    (append-digits b xs ys)
     ∙ sym (add-assoc (x * (b ^ length xs * b ^ length ys)) (fromDigits b xs * b ^ length ys) (fromDigits b ys))
     ∙ ap (λ (n : ℕ). n + fromDigits b ys)
     (ap (λ (n : ℕ). n + fromDigits b xs * b ^ length ys) (sym (mul-assoc x (b ^ length xs) (b ^ length ys)))
@@ -49,8 +53,10 @@ swap-parts : (a b c d : ℕ) → doubleSwap (a ∷ b ∷ c ∷ d ∷ []) ≡
     ∷ []
 unfolding doubleSwap doubleSwapBits bitRange digitsOf numbersOf toDigits
 swap-parts a b c d =
-    ap₂ (λ (x y : List ℕ). ordered x y (toDigits 2 32 c) (toDigits 2 32 d)) (split-digits 2 7 25 a) (split-digits 2 7 25 b)
-    ∙ ap₂ (ordered (toDigits 2 7 (a / 2 ^ 25) ++ toDigits 2 25 a) (toDigits 2 7 (b / 2 ^ 25) ++ toDigits 2 25 b)) (split-digits 2 25 7 c) (split-digits 2 25 7 d)
+    ap₂ (λ (x y : List ℕ). ordered x y (toDigits 2 32 c) (toDigits 2 32 d)) (split-digits 2 7 25 a)
+    (split-digits 2 7 25 b)
+    ∙ ap₂ (ordered (toDigits 2 7 (a / 2 ^ 25) ++ toDigits 2 25 a) (toDigits 2 7 (b / 2 ^ 25) ++ toDigits 2 25 b))
+    (split-digits 2 25 7 c) (split-digits 2 25 7 d)
 
 pub swapped : (a b c d : ℕ) → doubleSwap (a ∷ b ∷ c ∷ d ∷ []) ≡
     (a % 2 ^ 25 * 2 ^ 7 + b / 2 ^ 25 % 2 ^ 7)
@@ -58,4 +64,9 @@ pub swapped : (a b c d : ℕ) → doubleSwap (a ∷ b ∷ c ∷ d ∷ []) ≡
     ∷ (a / 2 ^ 25 % 2 ^ 7 * 2 ^ 25 + c / 2 ^ 7 % 2 ^ 25)
     ∷ (c % 2 ^ 7 * 2 ^ 25 + d / 2 ^ 7 % 2 ^ 25)
     ∷ []
-swapped a b c d = swap-parts a b c d ∙ rw (joined-bits 25 7 a (b / 2 ^ 25), joined-bits 25 7 b d, joined-bits 7 25 (a / 2 ^ 25) (c / 2 ^ 7), joined-bits 7 25 c (d / 2 ^ 7))
+swapped a b c d = swap-parts a b c d ∙ rw (
+  joined-bits 25 7 a (b / 2 ^ 25),
+  joined-bits 25 7 b d,
+  joined-bits 7 25 (a / 2 ^ 25) (c / 2 ^ 7),
+  joined-bits 7 25 c (d / 2 ^ 7),
+)

@@ -23,7 +23,8 @@ fn double_swap(x: [u32; 4]) -> [u32; 4]
 
 fn four_at(expanded: &[u32], at: usize) -> [u32; 4]
     requires { ⌜ at + 4 ≤ length (now expanded) ⌝ }
-    ensures { λ r. ⌜ r ≡ (getD (now (expanded .entry)) at 0 ∷ getD (now (expanded .entry)) (at + 1) 0 ∷ getD (now (expanded .entry)) (at + 2) 0 ∷ getD (now (expanded .entry)) (at + 3) 0 ∷ []) ⌝ }
+    ensures { λ r. ⌜ r ≡ (getD (now (expanded .entry)) at 0 ∷ getD (now (expanded .entry)) (at + 1) 0
+        ∷ getD (now (expanded .entry)) (at + 2) 0 ∷ getD (now (expanded .entry)) (at + 3) 0 ∷ []) ⌝ }
 {
     [
         expanded[at],
@@ -57,7 +58,8 @@ fn step(
 ) -> [u32; 4]
     requires { ⌜ (base + 4 * i + 4 ≤ length (now con)) × (4 + 4 * i + 4 ≤ length (now expanded)) ⌝ }
     ensures { λ r. ⌜ r ≡ doubleSwap l ⌝ }
-    ensures { λ r. ⌜ now (expanded .exit) ≡ putFour (now (expanded .entry)) (4 + 4 * i) (stepKeys i (fourAt (now (con .entry)) (base + 4 * i)) k l) ⌝ }
+    ensures { λ r. ⌜ now (expanded .exit) ≡ putFour (now (expanded .entry)) (4 + 4 * i)
+        (stepKeys i (fourAt (now (con .entry)) (base + 4 * i)) k l) ⌝ }
 {
     cipher_bytes::put_four(expanded, 4 + 4 * i, step_keys(i, con, base + 4 * i, k, l));
     double_swap(l)
@@ -91,7 +93,8 @@ pub fn round_keys(
     requires { ⌜ Period period ⌝ }
     requires { ⌜ base + 4 * n ≤ length (now con) ⌝ }
     requires { ⌜ length (now expanded) ≡ 4 + 4 * n ⌝ }
-    ensures { λ r. ⌜ now (expanded .exit) ≡ take 4 (now (expanded .entry)) ++ roundKeys period base (now (con .entry)) n 0 k k2 l l2 ⌝ }
+    ensures { λ r. ⌜ now (expanded .exit) ≡ take 4 (now (expanded .entry))
+        ++ roundKeys period base (now (con .entry)) n 0 k k2 l l2 ⌝ }
 {
     let mut a = l;
     let mut b = l2;

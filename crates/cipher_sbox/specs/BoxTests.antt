@@ -6,11 +6,13 @@ use Rattle.clefia_spec.specs.Field.{double, addProduct, product}
 use Rattle.clefia_spec.specs.Sbox.{ss0, ss1, ss2, ss3, s0}
 use Rattle.cipher_gf256.specs.Values.{values, values-ext}
 use Rattle.cipher_sbox.specs.Boxes.{box, byteTable}
-use Rattle.cipher_sbox.specs.Rules.{addColumns, fByColumns, gByColumns, power14, inverseBySubfield, s1ByColumns, s1-columns}
+use Rattle.cipher_sbox.specs.Rules.{addColumns, fByColumns, gByColumns, power14, inverseBySubfield, s1ByColumns}
+use Rattle.cipher_sbox.specs.Rules.{s1-columns}
 
 -- S0 by its rule, S1 by columns. Unfolding this unfolds all that it is computed with.
 unfoldable pub testedBox : ℕ → ℕ → ℕ
-unfolding ss0 ss1 ss2 ss3 s0 double addProduct product addColumns fByColumns gByColumns power14 inverseBySubfield s1ByColumns
+unfolding ss0 ss1 ss2 ss3 s0 double addProduct product addColumns fByColumns gByColumns power14 inverseBySubfield
+    s1ByColumns
 testedBox zero = s0
 testedBox (suc i) = s1ByColumns
 

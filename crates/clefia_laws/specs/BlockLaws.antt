@@ -10,14 +10,17 @@ use lib.Dec.{lit<}
 use lib.ListN.{length, getD, take, drop, length-drop, take-append-drop}
 use lib.Seq.{take-append-le, drop-append-le, length-take-le}
 use Rattle.clefia_spec.specs.Words.{fromDigits, toDigits, numbersOf, bytesOf, wordsOf, KeyLength, Below, none, more}
-use Rattle.clefia_laws.specs.DigitLaws.{length-digitsOf, length-numbersOf, numbers-digits, digits-numbers, below-digitsOf, below-numbersOf, below-getD, below-take, from-to, xors-cancel}
+use Rattle.clefia_laws.specs.DigitLaws.{length-digitsOf, length-numbersOf, numbers-digits, digits-numbers}
+use Rattle.clefia_laws.specs.DigitLaws.{below-digitsOf, below-numbersOf, below-getD, below-take, from-to}
+use Rattle.clefia_laws.specs.DigitLaws.{xors-cancel}
 use Rattle.clefia_spec.specs.FFunction.{f0, f1}
 use Rattle.clefia_laws.specs.FFunctionLaws.{f0-lt, f1-lt}
 use Rattle.clefia_spec.specs.Network.{network4, inverseNetwork4}
 use Rattle.clefia_laws.specs.NetworkLaws.{undo-network, redo-network, length-inverseNetwork, below-inverseNetwork}
 use Rattle.clefia_laws.specs.KeyLaws.{words-network, words-expandKey}
 use Rattle.clefia_laws.specs.SizedLaws.{Bytes, Words, sized-xors, Undone}
-use Rattle.clefia_spec.specs.Block.{whiten, roundCount, encryptWords, decryptWords, encryptUnder, decryptUnder, encrypt, decrypt}
+use Rattle.clefia_spec.specs.Block.{whiten, roundCount, encryptWords, decryptWords, encryptUnder, decryptUnder, encrypt}
+use Rattle.clefia_spec.specs.Block.{decrypt}
 
 -- ---- four words, under any words w
 
@@ -28,20 +31,25 @@ whiten-twice a b s = xors-cancel (0 ∷ a ∷ 0 ∷ b ∷ []) s
 pub decrypt-encrypt-words : (w s : List ℕ) → decryptWords w (encryptWords w s) ≡ s
 unfolding encryptWords decryptWords
 decrypt-encrypt-words w s =
-    ap (λ (t : List ℕ). whiten (getD w 0 0) (getD w 1 0) (inverseNetwork4 (roundCount w) w 4 t)) (whiten-twice (getD w 2 0) (getD w 3 0) _)
-    ∙ ap (whiten (getD w 0 0) (getD w 1 0)) (undo-network 2 f0 f1 (roundCount w) w 4 (whiten (getD w 0 0) (getD w 1 0) s))
+    ap (λ (t : List ℕ). whiten (getD w 0 0) (getD w 1 0) (inverseNetwork4 (roundCount w) w 4 t))
+    (whiten-twice (getD w 2 0) (getD w 3 0) _)
+    ∙ ap (whiten (getD w 0 0) (getD w 1 0)) (undo-network 2 f0 f1 (roundCount w) w 4
+    (whiten (getD w 0 0) (getD w 1 0) s))
     ∙ whiten-twice (getD w 0 0) (getD w 1 0) s
 
 pub encrypt-decrypt-words : (w s : List ℕ) → encryptWords w (decryptWords w s) ≡ s
 unfolding encryptWords decryptWords
 encrypt-decrypt-words w s =
-    ap (λ (t : List ℕ). whiten (getD w 2 0) (getD w 3 0) (network4 (roundCount w) w 4 t)) (whiten-twice (getD w 0 0) (getD w 1 0) _)
-    ∙ ap (whiten (getD w 2 0) (getD w 3 0)) (redo-network 2 f0 f1 (roundCount w) w 4 (whiten (getD w 2 0) (getD w 3 0) s))
+    ap (λ (t : List ℕ). whiten (getD w 2 0) (getD w 3 0) (network4 (roundCount w) w 4 t))
+    (whiten-twice (getD w 0 0) (getD w 1 0) _)
+    ∙ ap (whiten (getD w 2 0) (getD w 3 0)) (redo-network 2 f0 f1 (roundCount w) w 4
+    (whiten (getD w 2 0) (getD w 3 0) s))
     ∙ whiten-twice (getD w 2 0) (getD w 3 0) s
 
 words-whiten : {a b : ℕ} → a < 2 ^ 32 → b < 2 ^ 32 → {n : ℕ} {s : List ℕ} → Words n s → Words n (whiten a b s)
 unfolding whiten
-words-whiten ha hb h = sized-xors 32 (record { size = refl; below = more (lit< tt) (more ha (more (lit< tt) (more hb none))) }) h
+words-whiten ha hb h = sized-xors 32 (record
+    { size = refl; below = more (lit< tt) (more ha (more (lit< tt) (more hb none))) }) h
 
 module _ {w : List ℕ} (words : Below (2 ^ 32) w) where
   at : (i : ℕ) → getD w i 0 < 2 ^ 32
@@ -77,7 +85,11 @@ pub words-of-block : {b : List ℕ} → Below 256 b → Words 4 (wordsOf 4 b)
 words-of-block {b} r = record { size = length-numbersOf 256 4 4 b; below = below-numbersOf (lit< tt) 4 4 r }
 
 pub bytes-of-words : {s : List ℕ} → Words 4 s → Bytes 16 (bytesOf s)
-bytes-of-words {s} h = record { size = length-digitsOf 256 4 s ∙ ap (λ (n : ℕ). n * 4) (h .size); below = below-digitsOf (lit< tt) 4 s }
+bytes-of-words {s} h = record {
+  size = length-digitsOf 256 4 s ∙ ap (λ (n : ℕ). n * 4) (h .size);
+  below =
+      below-digitsOf (lit< tt) 4 s;
+}
 
 -- ---- a block at the start of a list of bytes
 
@@ -88,16 +100,22 @@ numbers-append b k zero xs ys e = refl
 numbers-append b k (suc n) xs ys e =
     let m : length xs ≡ n * k + k = e ∙ suc-mul n k in
     let fits : k ≤ length xs = omega arith in
-    rw (take-append-le k xs ys fits, drop-append-le k xs ys fits, numbers-append b k n (drop k xs) ys (length-drop k xs ∙ omega arith))
+    rw (
+      take-append-le k xs ys fits,
+      drop-append-le k xs ys fits,
+      numbers-append b k n (drop k xs) ys (length-drop k xs ∙ omega arith),
+    )
 
 -- The four words of the first block, and its bytes.
 pub words-at : (bs : List ℕ) → 16 ≤ length bs → wordsOf 4 (take 16 bs) ≡ wordsOf 4 bs
 words-at bs h =
-    sym (numbers-append 256 4 4 (take 16 bs) (drop 16 bs) (length-take-le 16 bs h)) ∙ ap (wordsOf 4) (take-append-drop 16 bs)
+    sym (numbers-append 256 4 4 (take 16 bs) (drop 16 bs) (length-take-le 16 bs h))
+    ∙ ap (wordsOf 4) (take-append-drop 16 bs)
 
 pub block-at : (bs : List ℕ) → Below 256 bs → 16 ≤ length bs → bytesOf (wordsOf 4 bs) ≡ take 16 bs
 block-at bs r h =
-    ap bytesOf (sym (words-at bs h)) ∙ digits-numbers (lit< tt) 4 4 (take 16 bs) (below-take 16 r) (length-take-le 16 bs h)
+    ap bytesOf (sym (words-at bs h)) ∙ digits-numbers (lit< tt) 4 4 (take 16 bs) (below-take 16 r)
+    (length-take-le 16 bs h)
 
 -- ---- blocks
 
@@ -107,17 +125,20 @@ undoes-bytes : (f g : List ℕ → List ℕ) → ((s : List ℕ) → Words 4 s �
 undoes-bytes f g kept back =
     record {
       keeps = λ b h. bytes-of-words (kept (wordsOf 4 b) (words-of-block (h .below)));
-      back = λ b h. ap (λ (s : List ℕ). bytesOf (g s)) (block-words (kept (wordsOf 4 b) (words-of-block (h .below)))) ∙ ap bytesOf (back (wordsOf 4 b)) ∙ words-block h;
+      back = λ b h. ap (λ (s : List ℕ). bytesOf (g s)) (block-words (kept (wordsOf 4 b) (words-of-block (h .below))))
+          ∙ ap bytesOf (back (wordsOf 4 b)) ∙ words-block h;
     }
 
 module _ {w : List ℕ} (words : Below (2 ^ 32) w) where
   pub decrypt-undoes-encrypt-under : Undone (Bytes 16) (encryptUnder w) (decryptUnder w)
   unfolding encryptUnder decryptUnder
-  decrypt-undoes-encrypt-under = undoes-bytes (encryptWords w) (decryptWords w) (λ s h. words-encryptWords words h) (decrypt-encrypt-words w)
+  decrypt-undoes-encrypt-under = undoes-bytes (encryptWords w) (decryptWords w) (λ s h. words-encryptWords words h)
+      (decrypt-encrypt-words w)
 
   pub encrypt-undoes-decrypt-under : Undone (Bytes 16) (decryptUnder w) (encryptUnder w)
   unfolding encryptUnder decryptUnder
-  encrypt-undoes-decrypt-under = undoes-bytes (decryptWords w) (encryptWords w) (λ s h. words-decryptWords words h) (encrypt-decrypt-words w)
+  encrypt-undoes-decrypt-under = undoes-bytes (decryptWords w) (encryptWords w) (λ s h. words-decryptWords words h)
+      (encrypt-decrypt-words w)
 
 module _ {key : List ℕ} (size : KeyLength (length key)) (bytes : Below 256 key) where
   pub decrypt-undoes-encrypt : Undone (Bytes 16) (encrypt key) (decrypt key)

@@ -3,7 +3,10 @@
 use Prim.Native.Nat.{ℕ, zero, suc, _+_, _*_, _/_, _%_, _^_, _<_, _≤_, _-_, min, zero-le, suc-le-suc}
 use mathlib.Core.Path.{_≡_, refl, sym, ap, ap₂, _∙_, subst}
 use mathlib.Core.List.{List, [], _∷_, _++_}
-use native.Mathlib.Nat.{le-of-suc-le-suc, pow-zero, pow-suc, pow-succ', mul-assoc, mod-one, mod-lt, mod-eq-of-lt, add-mul-div-right, add-comm, add-suc, suc-add, zero-add, mul-add-mod-self-right, suc-mul, zero-mul, lt-of-lt-of-le, zero-lt-suc, mul-pos, not-suc-le-zero, le-of-eq, pow-le-pow-right, mul-zero, mul-suc, suc-inj}
+use native.Mathlib.Nat.{le-of-suc-le-suc, pow-zero, pow-suc, pow-succ', mul-assoc, mod-one, mod-lt, mod-eq-of-lt}
+use native.Mathlib.Nat.{add-mul-div-right, add-comm, add-suc, suc-add, zero-add, mul-add-mod-self-right, suc-mul}
+use native.Mathlib.Nat.{zero-mul, lt-of-lt-of-le, zero-lt-suc, mul-pos, not-suc-le-zero, le-of-eq, pow-le-pow-right}
+use native.Mathlib.Nat.{mul-zero, mul-suc, suc-inj}
 use native.Mathlib.Omega.{arith}
 use lib.Arith.{digits-lt, digits-div, mod-mul}
 use lib.Bits.{xor-block, xor-shr, xor-mod, xor-lt}
@@ -75,7 +78,8 @@ module _ {b : ℕ} (pos : zero < b) where
   unfolding fromDigits
   fromDigits-lt none = power-pos 0
   fromDigits-lt (more {x = x} {xs = xs} h r) =
-      subst (λ (m : ℕ). x * b ^ length xs + fromDigits b xs < m) (sym (pow-succ' b (length xs))) (digits-lt h (fromDigits-lt r))
+      subst (λ (m : ℕ). x * b ^ length xs + fromDigits b xs < m) (sym (pow-succ' b (length xs)))
+      (digits-lt h (fromDigits-lt r))
 
   -- ---- to digits and back
 
@@ -104,7 +108,8 @@ module _ {b : ℕ} (pos : zero < b) where
       head =
           ap (λ (x : ℕ). (x + r) / b ^ k % b) power
           ∙ ap (λ (x : ℕ). x / b ^ k % b) (add-comm (q * b ^ m * b * b ^ k) r)
-          ∙ ap (λ (x : ℕ). x % b) (add-mul-div-right r (q * b ^ m * b) (power-pos k) ∙ add-comm (r / b ^ k) (q * b ^ m * b))
+          ∙ ap (λ (x : ℕ). x % b) (add-mul-div-right r (q * b ^ m * b) (power-pos k)
+          ∙ add-comm (r / b ^ k) (q * b ^ m * b))
           ∙ mul-add-mod-self-right (q * b ^ m) b (r / b ^ k)
 
   pub to-from : {ds : List ℕ} → Below b ds → toDigits b (length ds) (fromDigits b ds) ≡ ds
@@ -123,8 +128,10 @@ module _ {b : ℕ} (pos : zero < b) where
   numbers-digits k none = refl
   numbers-digits k (more {x = x} {xs = xs} h r) =
       ap₂ (λ (d : ℕ) (l : List ℕ). d ∷ l)
-      (ap (fromDigits b) (take-at (toDigits b k x) (digitsOf b k xs) k (length-toDigits b k x)) ∙ from-to k x ∙ mod-eq-of-lt h)
-      (ap (numbersOf b k (length xs)) (drop-at (toDigits b k x) (digitsOf b k xs) k (length-toDigits b k x)) ∙ numbers-digits k r)
+      (ap (fromDigits b) (take-at (toDigits b k x) (digitsOf b k xs) k (length-toDigits b k x)) ∙ from-to k x
+      ∙ mod-eq-of-lt h)
+      (ap (numbersOf b k (length xs)) (drop-at (toDigits b k x) (digitsOf b k xs) k (length-toDigits b k x))
+      ∙ numbers-digits k r)
 
   pub below-digitsOf : (k : ℕ) (ns : List ℕ) → Below b (digitsOf b k ns)
   unfolding digitsOf
@@ -154,7 +161,8 @@ module _ {b : ℕ} (pos : zero < b) where
   unfolding numbersOf
   below-numbersOf k zero r = none
   below-numbersOf k (suc n) {ds} r =
-      more (lt-of-lt-of-le (fromDigits-lt (below-take k r)) (pow-le-pow-right pos short)) (below-numbersOf k n (below-drop k r))
+      more (lt-of-lt-of-le (fromDigits-lt (below-take k r)) (pow-le-pow-right pos short))
+      (below-numbersOf k n (below-drop k r))
     where
       short : length (take k ds) ≤ k
       short = omega (arith, length-take k ds)
@@ -167,7 +175,8 @@ length-xors [] ys = refl
 length-xors (x ∷ xs) [] = refl
 length-xors (x ∷ xs) (y ∷ ys) = ap suc (length-xors xs ys)
 
-pub getD-xors : (xs ys : List ℕ) (i : ℕ) → i < length xs → i < length ys → getD (xors xs ys) i 0 ≡ getD xs i 0 ⊕ getD ys i 0
+pub getD-xors : (xs ys : List ℕ) (i : ℕ) → i < length xs → i < length ys
+    → getD (xors xs ys) i 0 ≡ getD xs i 0 ⊕ getD ys i 0
 unfolding xors
 getD-xors [] ys i h k = absurd (not-suc-le-zero h)
 getD-xors (x ∷ xs) [] i h k = absurd (not-suc-le-zero k)
@@ -220,7 +229,8 @@ module _ (w : ℕ) where
   power-mul : (n : ℕ) → (2 ^ w) ^ n ≡ 2 ^ (w * n)
   power-mul zero = pow-zero (2 ^ w) ∙ sym (ap (λ (e : ℕ). 2 ^ e) (mul-zero w))
   power-mul (suc n) =
-      pow-suc (2 ^ w) n ∙ ap (λ (x : ℕ). x * 2 ^ w) (power-mul n) ∙ sym (pow-add 2 (w * n) w) ∙ ap (λ (e : ℕ). 2 ^ e) (sym (mul-suc w n))
+      pow-suc (2 ^ w) n ∙ ap (λ (x : ℕ). x * 2 ^ w) (power-mul n) ∙ sym (pow-add 2 (w * n) w)
+      ∙ ap (λ (e : ℕ). 2 ^ e) (sym (mul-suc w n))
 
   pub fromDigits-xors : {xs ys : List ℕ} → Below (2 ^ w) xs → Below (2 ^ w) ys → length xs ≡ length ys
       → fromDigits (2 ^ w) (xors xs ys) ≡ fromDigits (2 ^ w) xs ⊕ fromDigits (2 ^ w) ys
@@ -233,7 +243,8 @@ module _ (w : ℕ) where
       (ap (λ (n : ℕ). (2 ^ w) ^ n) (length-xors xs ys ∙ sym same) ∙ power-mul (length xs))
       (fromDigits-xors r r′ same)
       ∙ sym (xor-block (w * length xs) x y (fromDigits (2 ^ w) xs) (fromDigits (2 ^ w) ys) small small′)
-      ∙ sym (ap₂ (λ (m n : ℕ). (x * m + fromDigits (2 ^ w) xs) ⊕ (y * n + fromDigits (2 ^ w) ys)) (power-mul (length xs)) (ap (λ (n : ℕ). (2 ^ w) ^ n) (sym same) ∙ power-mul (length xs)))
+      ∙ sym (ap₂ (λ (m n : ℕ). (x * m + fromDigits (2 ^ w) xs) ⊕ (y * n + fromDigits (2 ^ w) ys))
+      (power-mul (length xs)) (ap (λ (n : ℕ). (2 ^ w) ^ n) (sym same) ∙ power-mul (length xs)))
     where
       same : length xs ≡ length ys
       same = suc-inj e
@@ -243,7 +254,8 @@ module _ (w : ℕ) where
 
       small′ : fromDigits (2 ^ w) ys < 2 ^ (w * length xs)
       small′ =
-          subst (λ (m : ℕ). fromDigits (2 ^ w) ys < m) (ap (λ (n : ℕ). (2 ^ w) ^ n) (sym same) ∙ power-mul (length xs)) (fromDigits-lt base r′)
+          subst (λ (m : ℕ). fromDigits (2 ^ w) ys < m) (ap (λ (n : ℕ). (2 ^ w) ^ n) (sym same) ∙ power-mul (length xs))
+          (fromDigits-lt base r′)
 
   pub toDigits-xor : (k m n : ℕ) → toDigits (2 ^ w) k (m ⊕ n) ≡ xors (toDigits (2 ^ w) k m) (toDigits (2 ^ w) k n)
   unfolding toDigits xors
@@ -264,7 +276,8 @@ module _ (w : ℕ) where
   digitsOf-xors k (m ∷ ms) [] e = absurd (not-suc-le-zero (le-of-eq e))
   digitsOf-xors k (m ∷ ms) (n ∷ ns) e =
       ap₂ _++_ (toDigits-xor k m n) (digitsOf-xors k ms ns (suc-inj e))
-      ∙ sym (xors-append (toDigits (2 ^ w) k m) (digitsOf (2 ^ w) k ms) (toDigits (2 ^ w) k n) (digitsOf (2 ^ w) k ns) (length-toDigits (2 ^ w) k m ∙ sym (length-toDigits (2 ^ w) k n)))
+      ∙ sym (xors-append (toDigits (2 ^ w) k m) (digitsOf (2 ^ w) k ms) (toDigits (2 ^ w) k n) (digitsOf (2 ^ w) k ns)
+      (length-toDigits (2 ^ w) k m ∙ sym (length-toDigits (2 ^ w) k n)))
 
   pub numbersOf-xors : (k n : ℕ) {xs ys : List ℕ} → Below (2 ^ w) xs → Below (2 ^ w) ys → length xs ≡ length ys
       → numbersOf (2 ^ w) k n (xors xs ys) ≡ xors (numbersOf (2 ^ w) k n xs) (numbersOf (2 ^ w) k n ys)
@@ -275,4 +288,5 @@ module _ (w : ℕ) where
       (ap (fromDigits (2 ^ w)) (take-xors k xs ys)
       ∙ fromDigits-xors (below-take k r) (below-take k s) (length-take k xs ∙ ap (min k) e ∙ sym (length-take k ys)))
       (ap (numbersOf (2 ^ w) k n) (drop-xors k xs ys)
-      ∙ numbersOf-xors k n (below-drop k r) (below-drop k s) (length-drop k xs ∙ ap (λ (m : ℕ). m - k) e ∙ sym (length-drop k ys)))
+      ∙ numbersOf-xors k n (below-drop k r) (below-drop k s)
+      (length-drop k xs ∙ ap (λ (m : ℕ). m - k) e ∙ sym (length-drop k ys)))

@@ -24,7 +24,8 @@ allLess b (x ∷ xs) = ltb x b && allLess b xs
 pub below-tested : (b : ℕ) (xs : List ℕ) → T (allLess b xs) → Below b xs
 unfolding allLess
 below-tested b [] t = none
-below-tested b (x ∷ xs) t = let h = and-yes (ltb x b) (allLess b xs) t in more (ltb→lt x b (h .0)) (below-tested b xs (h .1))
+below-tested b (x ∷ xs) t = let h = and-yes (ltb x b) (allLess b xs) t in
+    more (ltb→lt x b (h .0)) (below-tested b xs (h .1))
 
 ss-lt : (ss : List ℕ) → T (allLess 16 ss) → (i : ℕ) → getD ss i 0 < 16
 ss-lt ss t = below-getD (lit< tt) (below-tested 16 ss t)
@@ -42,7 +43,8 @@ s0-lt x = digits-lt (ss-lt ss2 tt (t0 ⊕ double4 t1)) (ss-lt ss3 tt (double4 t0
 sumOfBits-lt : (x : ℕ) (row : List ℕ) → sumOfBits x row < 2 ^ 1
 unfolding sumOfBits bitOf
 sumOfBits-lt x [] = lit< tt
-sumOfBits-lt x (i ∷ row) = xor-lt 1 (bitOf x i) (sumOfBits x row) (mod-lt (x / 2 ^ (7 - i)) (lit< tt)) (sumOfBits-lt x row)
+sumOfBits-lt x (i ∷ row) = xor-lt 1 (bitOf x i) (sumOfBits x row) (mod-lt (x / 2 ^ (7 - i)) (lit< tt))
+    (sumOfBits-lt x row)
 
 below-sums : (x : ℕ) (rows : List (List ℕ)) → Below 2 (map (sumOfBits x) rows)
 below-sums x [] = none
@@ -50,14 +52,16 @@ below-sums x (row ∷ rows) = more (sumOfBits-lt x row) (below-sums x rows)
 
 pub s1-lt : (x : ℕ) → s1 x < 256
 unfolding s1 affine gRows
-s1-lt x = xor-lt 8 (fromDigits 2 (map (sumOfBits y) gRows)) 0x69 (fromDigits-lt (lit< tt) (below-sums y gRows)) (lit< tt)
+s1-lt x = xor-lt 8 (fromDigits 2 (map (sumOfBits y) gRows)) 0x69 (fromDigits-lt (lit< tt) (below-sums y gRows))
+    (lit< tt)
   where
     y : ℕ
     y = inverse (affine fRows 0x1e x)
 
 -- ---- a row of the matrix, the matrix, and F
 
-pub below-substitute : (s t : ℕ → ℕ) → ((x : ℕ) → s x < 256) → ((x : ℕ) → t x < 256) → (bs : List ℕ) → Below 256 (substitute s t bs)
+pub below-substitute : (s t : ℕ → ℕ) → ((x : ℕ) → s x < 256) → ((x : ℕ) → t x < 256) → (bs : List ℕ)
+    → Below 256 (substitute s t bs)
 unfolding substitute
 below-substitute s t hs ht [] = none
 below-substitute s t hs ht (b ∷ bs) = more (hs b) (below-substitute t s ht hs bs)
@@ -73,7 +77,8 @@ rowTimes-lt m i {y} r =
 pub matrixTimes-lt : (m : List ℕ) {y : List ℕ} → Below 256 y → matrixTimes m y < 2 ^ 32
 unfolding matrixTimes
 matrixTimes-lt m r =
-    fromDigits-lt (lit< tt) (more (rowTimes-lt m 0 r) (more (rowTimes-lt m 1 r) (more (rowTimes-lt m 2 r) (more (rowTimes-lt m 3 r) none))))
+    fromDigits-lt (lit< tt) (more (rowTimes-lt m 0 r)
+    (more (rowTimes-lt m 1 r) (more (rowTimes-lt m 2 r) (more (rowTimes-lt m 3 r) none))))
 
 -- (by search, so that these bounds do not depend on the order of the boxes: a wrong order fails in
 -- Examples)

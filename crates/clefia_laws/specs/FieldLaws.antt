@@ -4,7 +4,8 @@ use Prim.Native.Nat.{ℕ, zero, suc, _*_, _/_, _%_, _<_, _≤_}
 use mathlib.Core.Path.{_≡_, refl, sym, subst}
 use mathlib.Core.Bool.{Bool, true, _&&_}
 use mathlib.Core.Logic.{⊎-elim}
-use native.Mathlib.Nat.{eq-or-lt-of-le, le-of-suc-le-suc, not-suc-le-zero, mod-lt, zero-lt-suc, mul-le-mul-right, lt-of-le-of-lt, one-mul}
+use native.Mathlib.Nat.{eq-or-lt-of-le, le-of-suc-le-suc, not-suc-le-zero, mod-lt, zero-lt-suc, mul-le-mul-right}
+use native.Mathlib.Nat.{lt-of-le-of-lt, one-mul}
 use native.Mathlib.Omega.{arith}
 use lib.Bits.{xor-lt}
 use mir.Facts.{and-yes}

@@ -10,22 +10,26 @@ use lib.Bits.{xor-lt}
 use lib.Pow.{ones-sub-lt}
 use lib.Dec.{lit<, ltb, eqb}
 use lib.ListN.{length}
-use Rattle.clefia_spec.specs.Words.{_⊕_, complement, rotate, digitsOf, fourAt, choose, byKeyLength, KeyLength, sixteen, twentyFour, thirtyTwo, Below, none, more}
-use Rattle.clefia_laws.specs.DigitLaws.{length-numbersOf, below-append, below-take, below-drop, below-getD, below-numbersOf, below-digitsOf}
+use Rattle.clefia_spec.specs.Words.{_⊕_, complement, rotate, digitsOf, fourAt, choose, byKeyLength, KeyLength, sixteen}
+use Rattle.clefia_spec.specs.Words.{twentyFour, thirtyTwo, Below, none, more}
+use Rattle.clefia_laws.specs.DigitLaws.{length-numbersOf, below-append, below-take, below-drop, below-getD}
+use Rattle.clefia_laws.specs.DigitLaws.{below-numbersOf, below-digitsOf}
 use Rattle.clefia_laws.specs.SizedLaws.{Words, sized-append, sized-take, sized-drop, sized-xors}
 use Rattle.clefia_spec.specs.Constants.{divideByZ, evenConstant, oddConstant, constantsFrom, firstT, constants}
 use Rattle.clefia_spec.specs.FFunction.{f0, f1}
 use Rattle.clefia_laws.specs.FFunctionLaws.{f0-lt, f1-lt}
 use Rattle.clefia_spec.specs.Network.{network, network4, network8}
 use Rattle.clefia_laws.specs.NetworkLaws.{length-network, below-network}
-use Rattle.clefia_spec.specs.KeySchedule.{doubleSwapBits, doubleSwap, bitRange, stepKeys, roundKeys, expandShort, expandLong, extendKey, expandKeyWords, expandKey}
+use Rattle.clefia_spec.specs.KeySchedule.{doubleSwapBits, doubleSwap, bitRange, stepKeys, roundKeys, expandShort}
+use Rattle.clefia_spec.specs.KeySchedule.{expandLong, extendKey, expandKeyWords, expandKey}
 
 -- ---- constants
 
 length-constantsFrom : (n t : ℕ) → length (constantsFrom n t) ≡ n * 2
 unfolding constantsFrom
 length-constantsFrom zero t = refl
-length-constantsFrom (suc n) t = ap (λ (m : ℕ). suc (suc m)) (length-constantsFrom n (divideByZ t)) ∙ omega (arith, suc-mul n 2)
+length-constantsFrom (suc n) t = ap (λ (m : ℕ). suc (suc m)) (length-constantsFrom n (divideByZ t))
+    ∙ omega (arith, suc-mul n 2)
 
 pub length-constants : {n : ℕ} → KeyLength n → length (constants n) ≡ byKeyLength n 60 84 92
 unfolding constants firstT
@@ -56,8 +60,10 @@ below-constantsFrom : (n t : ℕ) → t < 2 ^ 16 → Below (2 ^ 32) (constantsFr
 unfolding constantsFrom evenConstant oddConstant
 below-constantsFrom zero t h = none
 below-constantsFrom (suc n) t h =
-    more (halves-lt (t ⊕ 0xb7e1) (rotate 16 1 (complement 16 t)) (xor-lt 16 t 0xb7e1 h (lit< tt)) (rotate1-lt (complement 16 t) (complement-lt 16 t)))
-    (more (halves-lt (complement 16 t ⊕ 0x243f) (rotate 16 8 t) (xor-lt 16 (complement 16 t) 0x243f (complement-lt 16 t) (lit< tt)) (rotate8-lt t h))
+    more (halves-lt (t ⊕ 0xb7e1) (rotate 16 1 (complement 16 t)) (xor-lt 16 t 0xb7e1 h (lit< tt))
+    (rotate1-lt (complement 16 t) (complement-lt 16 t)))
+    (more (halves-lt (complement 16 t ⊕ 0x243f) (rotate 16 8 t)
+    (xor-lt 16 (complement 16 t) 0x243f (complement-lt 16 t) (lit< tt)) (rotate8-lt t h))
     (below-constantsFrom n (divideByZ t) (divideByZ-lt t h)))
 
 pub below-constants : {n : ℕ} → KeyLength n → Below (2 ^ 32) (constants n)
@@ -71,7 +77,8 @@ below-constants thirtyTwo = below-constantsFrom 46 0xb5c0 (lit< tt)
 below-fourAt : {b : ℕ} {w : List ℕ} → 0 < b → Below b w → (i : ℕ) → Below b (fourAt w i)
 unfolding fourAt
 below-fourAt pos r i =
-    more (below-getD pos r i) (more (below-getD pos r (i + 1)) (more (below-getD pos r (i + 2)) (more (below-getD pos r (i + 3)) none)))
+    more (below-getD pos r i) (more (below-getD pos r (i + 1))
+    (more (below-getD pos r (i + 2)) (more (below-getD pos r (i + 3)) none)))
 
 pub length-doubleSwap : (x : List ℕ) → length (doubleSwap x) ≡ 4
 unfolding doubleSwap
@@ -102,7 +109,8 @@ unfolding stepKeys
 words-stepKeys i c p q = words-chosen (eqb (i % 2) 1) (sized-xors 32 p (sized-xors 32 c q)) (sized-xors 32 c q)
 
 module _ (period base : ℕ) (con : List ℕ) (r : Below (2 ^ 32) con) where
-  words-roundKeys : (n i : ℕ) {k k′ l l′ : List ℕ} → Words 4 k → Words 4 k′ → Words 4 l → Words 4 l′ → Words (n * 4) (roundKeys period base con n i k k′ l l′)
+  words-roundKeys : (n i : ℕ) {k k′ l l′ : List ℕ} → Words 4 k → Words 4 k′ → Words 4 l → Words 4 l′
+      → Words (n * 4) (roundKeys period base con n i k k′ l l′)
   unfolding roundKeys
   words-roundKeys zero i hk hk′ hl hl′ = record { size = sym (zero-mul 4); below = none }
   words-roundKeys (suc n) i {k} {k′} {l} {l′} hk hk′ hl hl′ =
@@ -114,9 +122,14 @@ module _ (period base : ℕ) (con : List ℕ) (r : Below (2 ^ 32) con) where
 
 -- ---- expanded keys
 
-pub words-network : (p n : ℕ) (con : List ℕ) (i : ℕ) {m : ℕ} {s : List ℕ} → Words m s → Words m (network p f0 f1 n con i s)
+pub words-network : (p n : ℕ) (con : List ℕ) (i : ℕ) {m : ℕ} {s : List ℕ} → Words m s
+    → Words m (network p f0 f1 n con i s)
 words-network p n con i {s = s} h =
-    record { size = length-network p f0 f1 n con i s ∙ h .size; below = below-network p f0 f1 32 f0-lt f1-lt n con i (h .below) }
+    record {
+      size = length-network p f0 f1 n con i s ∙ h .size;
+      below =
+          below-network p f0 f1 32 f0-lt f1-lt n con i (h .below);
+    }
 
 words-short : {k : List ℕ} → Words 4 k → Words 40 (expandShort k)
 unfolding expandShort
@@ -126,10 +139,12 @@ words-short {k} h =
     l : Words 4 (network4 12 (constants 16) 0 k)
     l = words-network 2 12 (constants 16) 0 h
 
-words-long : {con : List ℕ} (n : ℕ) {kl kr : List ℕ} → Below (2 ^ 32) con → Words 4 kl → Words 4 kr → Words (4 + n * 4) (expandLong con n kl kr)
+words-long : {con : List ℕ} (n : ℕ) {kl kr : List ℕ} → Below (2 ^ 32) con → Words 4 kl → Words 4 kr
+    → Words (4 + n * 4) (expandLong con n kl kr)
 unfolding expandLong
 words-long {con} n {kl} {kr} c hl hr =
-    sized-append 4 (n * 4) (sized-xors 32 hl hr) (words-roundKeys 4 40 con c n 0 hr hl (sized-take 4 4 l refl) (sized-drop 4 4 l refl)) refl
+    sized-append 4 (n * 4) (sized-xors 32 hl hr)
+    (words-roundKeys 4 40 con c n 0 hr hl (sized-take 4 4 l refl) (sized-drop 4 4 l refl)) refl
   where
     l : Words 8 (network8 10 con 0 (kl ++ kr))
     l = words-network 4 10 con 0 (sized-append 4 4 hl hr refl)
@@ -138,16 +153,19 @@ words-extendKey : {k : List ℕ} → Below (2 ^ 32) k → Words 4 (extendKey k)
 unfolding extendKey
 words-extendKey r = record { size = refl; below = search (more, none, below-getD, complement-lt, lit<, tt) depth 9 }
 
-pub words-expandKeyWords : {n : ℕ} → KeyLength n → {k : List ℕ} → Below (2 ^ 32) k → Words (byKeyLength n 40 48 56) (expandKeyWords n k)
+pub words-expandKeyWords : {n : ℕ} → KeyLength n → {k : List ℕ} → Below (2 ^ 32) k
+    → Words (byKeyLength n 40 48 56) (expandKeyWords n k)
 unfolding expandKeyWords
 words-expandKeyWords sixteen r = words-short (words-fourAt r 0)
 words-expandKeyWords twentyFour r = words-long 11 (below-constants twentyFour) (words-fourAt r 0) (words-extendKey r)
 words-expandKeyWords thirtyTwo r = words-long 13 (below-constants thirtyTwo) (words-fourAt r 0) (words-fourAt r 4)
 
 -- The expanded key of a key of a permitted length: 40, 48 or 56 words.
-pub words-expandKey : {key : List ℕ} → KeyLength (length key) → Below 256 key → Words (byKeyLength (length key) 40 48 56) (expandKey key)
+pub words-expandKey : {key : List ℕ} → KeyLength (length key) → Below 256 key
+    → Words (byKeyLength (length key) 40 48 56) (expandKey key)
 unfolding expandKey
 words-expandKey {key} h r = words-expandKeyWords h (below-numbersOf (lit< tt) 4 (length key / 4) r)
 
-pub length-expandKey : {key : List ℕ} → KeyLength (length key) → Below 256 key → length (expandKey key) ≡ byKeyLength (length key) 40 48 56
+pub length-expandKey : {key : List ℕ} → KeyLength (length key) → Below 256 key
+    → length (expandKey key) ≡ byKeyLength (length key) 40 48 56
 length-expandKey h r = words-expandKey h r .size

@@ -10,7 +10,8 @@ use lib.Seq.{take-at, drop-at}
 use Rattle.clefia_spec.specs.Words.{Below, none, more}
 use Rattle.clefia_laws.specs.XorLaws.{xor-cancel-right}
 use Rattle.clefia_laws.specs.DigitLaws.{below-append, below-take, below-drop}
-use Rattle.clefia_spec.specs.Network.{feistel, rotateBranches, rotateLeft, rotateRight, rounds, undoRounds, network, inverseNetwork}
+use Rattle.clefia_spec.specs.Network.{feistel, rotateBranches, rotateLeft, rotateRight, rounds, undoRounds, network}
+use Rattle.clefia_spec.specs.Network.{inverseNetwork}
 
 -- ---- rotations
 
@@ -31,7 +32,8 @@ rotate-back j k s e =
 pub right-left : (s : List ℕ) → rotateRight (rotateLeft s) ≡ s
 right-left [] = unfold rotateBranches in refl
 right-left (x ∷ s) =
-    ap (λ (n : ℕ). rotateBranches (n - 1) (rotateLeft (x ∷ s))) (length-rotate 1 (x ∷ s)) ∙ rotate-back (length (x ∷ s) - 1) 1 (x ∷ s) (omega arith)
+    ap (λ (n : ℕ). rotateBranches (n - 1) (rotateLeft (x ∷ s))) (length-rotate 1 (x ∷ s))
+    ∙ rotate-back (length (x ∷ s) - 1) 1 (x ∷ s) (omega arith)
 
 pub left-right : (s : List ℕ) → rotateLeft (rotateRight s) ≡ s
 left-right [] = unfold rotateBranches in refl
@@ -76,7 +78,8 @@ module _ (p : ℕ) (f g : ℕ → ℕ → ℕ) where
   unfolding rounds undoRounds
   redo-rounds zero w i s = refl
   redo-rounds (suc n) w i s =
-      ap (λ (t : List ℕ). rounds p f g n w (i + p) (rotateLeft t)) (feistel-twice f g w i (rotateRight (undoRounds p f g n w (i + p) s)))
+      ap (λ (t : List ℕ). rounds p f g n w (i + p) (rotateLeft t))
+      (feistel-twice f g w i (rotateRight (undoRounds p f g n w (i + p) s)))
       ∙ ap (rounds p f g n w (i + p)) (left-right (undoRounds p f g n w (i + p) s)) ∙ redo-rounds n w (i + p) s
 
   pub undo-network : (n : ℕ) (w : List ℕ) (i : ℕ) (s : List ℕ) → inverseNetwork p f g n w i (network p f g n w i s) ≡ s
@@ -91,7 +94,8 @@ module _ (p : ℕ) (f g : ℕ → ℕ → ℕ) where
   unfolding rounds
   length-rounds zero w i s = refl
   length-rounds (suc n) w i s =
-      length-rounds n w (i + p) (rotateLeft (feistel f g w i s)) ∙ length-rotate 1 (feistel f g w i s) ∙ length-feistel f g w i s
+      length-rounds n w (i + p) (rotateLeft (feistel f g w i s)) ∙ length-rotate 1 (feistel f g w i s)
+      ∙ length-feistel f g w i s
 
   length-undoRounds : (n : ℕ) (w : List ℕ) (i : ℕ) (s : List ℕ) → length (undoRounds p f g n w i s) ≡ length s
   unfolding undoRounds
@@ -102,9 +106,11 @@ module _ (p : ℕ) (f g : ℕ → ℕ → ℕ) where
 
   pub length-network : (n : ℕ) (w : List ℕ) (i : ℕ) (s : List ℕ) → length (network p f g n w i s) ≡ length s
   unfolding network
-  length-network n w i s = length-rotate (length (rounds p f g n w i s) - 1) (rounds p f g n w i s) ∙ length-rounds n w i s
+  length-network n w i s = length-rotate (length (rounds p f g n w i s) - 1) (rounds p f g n w i s)
+      ∙ length-rounds n w i s
 
-  pub length-inverseNetwork : (n : ℕ) (w : List ℕ) (i : ℕ) (s : List ℕ) → length (inverseNetwork p f g n w i s) ≡ length s
+  pub length-inverseNetwork : (n : ℕ) (w : List ℕ) (i : ℕ) (s : List ℕ)
+      → length (inverseNetwork p f g n w i s) ≡ length s
   unfolding inverseNetwork
   length-inverseNetwork n w i s = length-undoRounds n w i (rotateLeft s) ∙ length-rotate 1 s
 
@@ -115,17 +121,20 @@ module _ (p : ℕ) (f g : ℕ → ℕ → ℕ) where
     below-rounds zero w i r = r
     below-rounds (suc n) w i r = below-rounds n w (i + p) (below-rotate 1 (below-feistel k f g hf hg w i r))
 
-    below-undoRounds : (n : ℕ) (w : List ℕ) (i : ℕ) {s : List ℕ} → Below (2 ^ k) s → Below (2 ^ k) (undoRounds p f g n w i s)
+    below-undoRounds : (n : ℕ) (w : List ℕ) (i : ℕ) {s : List ℕ} → Below (2 ^ k) s
+        → Below (2 ^ k) (undoRounds p f g n w i s)
     unfolding undoRounds
     below-undoRounds zero w i r = r
     below-undoRounds (suc n) w i {s} r =
         below-feistel k f g hf hg w i
         (below-rotate (length (undoRounds p f g n w (i + p) s) - 1) (below-undoRounds n w (i + p) r))
 
-    pub below-network : (n : ℕ) (w : List ℕ) (i : ℕ) {s : List ℕ} → Below (2 ^ k) s → Below (2 ^ k) (network p f g n w i s)
+    pub below-network : (n : ℕ) (w : List ℕ) (i : ℕ) {s : List ℕ} → Below (2 ^ k) s
+        → Below (2 ^ k) (network p f g n w i s)
     unfolding network
     below-network n w i {s} r = below-rotate (length (rounds p f g n w i s) - 1) (below-rounds n w i r)
 
-    pub below-inverseNetwork : (n : ℕ) (w : List ℕ) (i : ℕ) {s : List ℕ} → Below (2 ^ k) s → Below (2 ^ k) (inverseNetwork p f g n w i s)
+    pub below-inverseNetwork : (n : ℕ) (w : List ℕ) (i : ℕ) {s : List ℕ} → Below (2 ^ k) s
+        → Below (2 ^ k) (inverseNetwork p f g n w i s)
     unfolding inverseNetwork
     below-inverseNetwork n w i r = below-undoRounds n w i (below-rotate 1 r)

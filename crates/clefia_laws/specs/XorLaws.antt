@@ -19,7 +19,8 @@ differ-assoc zero y z h k l = refl
 differ-assoc (suc zero) zero z h k l = refl
 differ-assoc (suc zero) (suc zero) zero h k l = refl
 differ-assoc (suc zero) (suc zero) (suc zero) h k l = refl
-differ-assoc (suc zero) (suc zero) (suc (suc z)) h k l = absurd (not-suc-le-zero (le-of-suc-le-suc (le-of-suc-le-suc l)))
+differ-assoc (suc zero) (suc zero) (suc (suc z)) h k l =
+    absurd (not-suc-le-zero (le-of-suc-le-suc (le-of-suc-le-suc l)))
 differ-assoc (suc zero) (suc (suc y)) z h k l = absurd (not-suc-le-zero (le-of-suc-le-suc (le-of-suc-le-suc k)))
 differ-assoc (suc (suc x)) y z h k l = absurd (not-suc-le-zero (le-of-suc-le-suc (le-of-suc-le-suc h)))
 

@@ -19,7 +19,8 @@ unfoldable pub encryptWords : List ℕ → List ℕ → List ℕ
 encryptWords w s = whiten (getD w 2 0) (getD w 3 0) (network4 (roundCount w) w 4 (whiten (getD w 0 0) (getD w 1 0) s))
 
 unfoldable pub decryptWords : List ℕ → List ℕ → List ℕ
-decryptWords w s = whiten (getD w 0 0) (getD w 1 0) (inverseNetwork4 (roundCount w) w 4 (whiten (getD w 2 0) (getD w 3 0) s))
+decryptWords w s = whiten (getD w 0 0) (getD w 1 0)
+    (inverseNetwork4 (roundCount w) w 4 (whiten (getD w 2 0) (getD w 3 0) s))
 
 -- A block of 16 bytes under an expanded key.
 unfoldable pub encryptUnder : List ℕ → List ℕ → List ℕ

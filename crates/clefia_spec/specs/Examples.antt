@@ -6,19 +6,22 @@ use Prim.Native.Nat.{ℕ}
 use mathlib.Core.List.{List, [], _∷_, _++_}
 use mathlib.Core.Path.{refl}
 use lib.ListN.{length, getD, take, replicate}
-use Rattle.clefia_spec.specs.Words.{complement, rotate, fromDigits, toDigits, digitsOf, numbersOf, bytesOf, fourAt, xors}
+use Rattle.clefia_spec.specs.Words.{complement, rotate, fromDigits, toDigits, digitsOf, numbersOf, bytesOf}
+use Rattle.clefia_spec.specs.Words.{fourAt, xors}
 use Rattle.clefia_spec.specs.Constants.{divideByZ, evenConstant, oddConstant, constantsFrom, firstT, constants}
 use Rattle.clefia_spec.specs.Field.{double, addProduct, product, squares, inverse}
 use Rattle.clefia_spec.specs.Sbox.{ss0, ss1, ss2, ss3, s0, s1, bitOf, sumOfBits, affine, fRows, gRows}
 use Rattle.clefia_spec.specs.FFunction.{m0, m1, matrixEntry, rowTimes, matrixTimes, substitute, f0, f1}
 use Rattle.clefia_spec.specs.Network.{feistel, rotateBranches, rounds, undoRounds, network, inverseNetwork}
-use Rattle.clefia_spec.specs.KeySchedule.{bitRange, doubleSwapBits, doubleSwap, stepKeys, roundKeys, expandShort, expandLong, extendKey, expandKeyWords, expandKey}
+use Rattle.clefia_spec.specs.KeySchedule.{bitRange, doubleSwapBits, doubleSwap, stepKeys, roundKeys, expandShort}
+use Rattle.clefia_spec.specs.KeySchedule.{expandLong, extendKey, expandKeyWords, expandKey}
 use Rattle.clefia_spec.specs.Block.{whiten, roundCount, encryptWords, decryptWords, encryptUnder, decryptUnder}
 use Rattle.clefia_spec.specs.Cases.{Case, _gives_, AllHold, allSame, computed}
 
 -- The 32-byte key of section 2.5. Its first 16 and 24 bytes are the shorter keys.
 abbrev pub key32 : List ℕ
-key32 = bytesOf (0xffeeddcc ∷ 0xbbaa9988 ∷ 0x77665544 ∷ 0x33221100 ∷ 0xf0e0d0c0 ∷ 0xb0a09080 ∷ 0x70605040 ∷ 0x30201000 ∷ [])
+key32 = bytesOf (0xffeeddcc ∷ 0xbbaa9988 ∷ 0x77665544 ∷ 0x33221100 ∷ 0xf0e0d0c0 ∷ 0xb0a09080 ∷ 0x70605040 ∷ 0x30201000
+    ∷ [])
 
 -- WK (whitening words) and then RK (round keys) of the two shorter keys. (Crate test_long_cases has
 -- a ciphertext under each of the three.)
@@ -42,9 +45,12 @@ expandedKeys =
 -- How many constants there are, and the last two (tables 2.8 to 2.12).
 pub constantsExamples : List Case
 constantsExamples =
-    (length (constants 16) ∷ getD (constants 16) 58 0 ∷ getD (constants 16) 59 0 ∷ [] gives 60 ∷ 0x1052b098 ∷ 0x7c73b3a7 ∷ [])
-    ∷ (length (constants 24) ∷ getD (constants 24) 82 0 ∷ getD (constants 24) 83 0 ∷ [] gives 84 ∷ 0x3e51ec9e ∷ 0x5270b089 ∷ [])
-    ∷ (length (constants 32) ∷ getD (constants 32) 90 0 ∷ getD (constants 32) 91 0 ∷ [] gives 92 ∷ 0x04cf99a2 ∷ 0x68ee2eb3 ∷ [])
+    (length (constants 16) ∷ getD (constants 16) 58 0 ∷ getD (constants 16) 59 0 ∷ [] gives 60 ∷ 0x1052b098 ∷ 0x7c73b3a7
+    ∷ [])
+    ∷ (length (constants 24) ∷ getD (constants 24) 82 0 ∷ getD (constants 24) 83 0 ∷ [] gives 84 ∷ 0x3e51ec9e
+    ∷ 0x5270b089 ∷ [])
+    ∷ (length (constants 32) ∷ getD (constants 32) 90 0 ∷ getD (constants 32) 91 0 ∷ [] gives 92 ∷ 0x04cf99a2
+    ∷ 0x68ee2eb3 ∷ [])
     ∷ []
 
 -- WK, RK0 and RK1 of the 16-byte key: six words that all differ. Two rounds have RK2 and RK3 too.
@@ -60,18 +66,23 @@ abbrev pub clearBlock : List ℕ
 clearBlock = 0 ∷ 1 ∷ 2 ∷ 3 ∷ 4 ∷ 5 ∷ 6 ∷ 7 ∷ 8 ∷ 9 ∷ 10 ∷ 11 ∷ 12 ∷ 13 ∷ 14 ∷ 15 ∷ []
 
 abbrev roundedBlock : List ℕ
-roundedBlock = 0x00 ∷ 0x01 ∷ 0x02 ∷ 0x03 ∷ 0xd8 ∷ 0xf7 ∷ 0xbf ∷ 0x1c ∷ 0x08 ∷ 0x09 ∷ 0x0a ∷ 0x0b ∷ 0x2f ∷ 0x74 ∷ 0xa6 ∷ 0xf7 ∷ []
+roundedBlock = 0x00 ∷ 0x01 ∷ 0x02 ∷ 0x03 ∷ 0xd8 ∷ 0xf7 ∷ 0xbf ∷ 0x1c ∷ 0x08 ∷ 0x09 ∷ 0x0a ∷ 0x0b ∷ 0x2f ∷ 0x74 ∷ 0xa6
+    ∷ 0xf7 ∷ []
 
 pub blockExamples : List Case
 blockExamples =
     (encryptUnder oneRound clearBlock gives roundedBlock)
     ∷ (decryptUnder oneRound roundedBlock gives clearBlock)
     ∷ (decryptUnder twoRounds (encryptUnder twoRounds clearBlock) gives clearBlock)
-    ∷ (roundCount (replicate 40 0) ∷ roundCount (replicate 48 0) ∷ roundCount (replicate 56 0) ∷ [] gives 18 ∷ 22 ∷ 26 ∷ [])
+    ∷ (roundCount (replicate 40 0) ∷ roundCount (replicate 48 0) ∷ roundCount (replicate 56 0) ∷ [] gives 18 ∷ 22 ∷ 26
+    ∷ [])
     ∷ []
 
 pub blockExamples-hold : AllHold blockExamples
-unfolding blockExamples allSame fromDigits toDigits digitsOf numbersOf xors double addProduct product squares inverse ss0 ss1 ss2 ss3 s0 s1 bitOf sumOfBits affine fRows gRows m0 m1 matrixEntry rowTimes matrixTimes substitute f0 f1 feistel rotateBranches rounds undoRounds network inverseNetwork whiten roundCount encryptWords decryptWords encryptUnder decryptUnder
+unfolding blockExamples allSame fromDigits toDigits digitsOf numbersOf xors double addProduct product squares inverse
+    ss0 ss1 ss2 ss3 s0 s1 bitOf sumOfBits affine fRows gRows m0 m1 matrixEntry rowTimes matrixTimes substitute f0 f1
+    feistel rotateBranches rounds undoRounds network inverseNetwork whiten roundCount encryptWords decryptWords
+    encryptUnder decryptUnder
 blockExamples-hold = computed blockExamples refl
 
 pub constantsExamples-hold : AllHold constantsExamples
@@ -79,5 +90,9 @@ unfolding constantsExamples allSame complement rotate divideByZ evenConstant odd
 constantsExamples-hold = computed constantsExamples refl
 
 pub expandedKeys-hold : AllHold expandedKeys
-unfolding expandedKeys allSame complement rotate fromDigits toDigits digitsOf numbersOf fourAt xors divideByZ evenConstant oddConstant constantsFrom firstT constants double addProduct product squares inverse ss0 ss1 ss2 ss3 s0 s1 bitOf sumOfBits affine fRows gRows m0 m1 matrixEntry rowTimes matrixTimes substitute f0 f1 feistel rotateBranches rounds network bitRange doubleSwapBits doubleSwap stepKeys roundKeys expandShort expandLong extendKey expandKeyWords expandKey
+unfolding expandedKeys allSame complement rotate fromDigits toDigits digitsOf numbersOf fourAt xors divideByZ
+    evenConstant oddConstant constantsFrom firstT constants double addProduct product squares inverse ss0 ss1 ss2 ss3 s0
+    s1 bitOf sumOfBits affine fRows gRows m0 m1 matrixEntry rowTimes matrixTimes substitute f0 f1 feistel
+    rotateBranches rounds network bitRange doubleSwapBits doubleSwap stepKeys roundKeys expandShort expandLong
+    extendKey expandKeyWords expandKey
 expandedKeys-hold = computed expandedKeys refl

@@ -55,7 +55,8 @@ extendKey k = getD k 4 0 ∷ getD k 5 0 ∷ complement 32 (getD k 0 0) ∷ compl
 -- The expanded key of a key of 16, 24 or 32 bytes: 40, 48 or 56 words.
 unfoldable pub expandKeyWords : ℕ → List ℕ → List ℕ
 expandKeyWords n k =
-    byKeyLength n (expandShort (fourAt k 0)) (expandLong (constants 24) 11 (fourAt k 0) (extendKey k)) (expandLong (constants 32) 13 (fourAt k 0) (fourAt k 4))
+    byKeyLength n (expandShort (fourAt k 0)) (expandLong (constants 24) 11 (fourAt k 0) (extendKey k))
+    (expandLong (constants 32) 13 (fourAt k 0) (fourAt k 4))
 
 unfoldable pub expandKey : List ℕ → List ℕ
 expandKey key = expandKeyWords (length key) (wordsOf (length key / 4) key)

@@ -10,7 +10,8 @@ use Rattle.clefia_spec.specs.Words.{toDigits, digitsOf, bytesOf, wordsOf, xors,
 use Rattle.clefia_spec.specs.Block.{encryptWords, encryptUnder}
 use Rattle.clefia_laws.specs.DigitLaws.{below-getD, below-drop, digitsOf-xors}
 use Rattle.clefia_laws.specs.SizedLaws.{Words}
-use Rattle.clefia_laws.specs.BlockLaws.{word-back, block-words, bytes-of-words, block-at, words-of-block, words-encryptWords}
+use Rattle.clefia_laws.specs.BlockLaws.{word-back, block-words, bytes-of-words, block-at, words-of-block}
+use Rattle.clefia_laws.specs.BlockLaws.{words-encryptWords}
 use Rattle.cipher_bytes.specs.ListLaws.{spelled, spell}
 use Rattle.cipher_network4_four_way.specs.declared.FourStates.{FourStates}
 use Rattle.cipher_network4_four_way.specs.Four.{each}
@@ -25,16 +26,27 @@ counterState s i = getD s 0 0 ∷ getD s 1 0 ∷ getD s 2 0 ∷ (getD s 3 0 + i)
 -- Four counter blocks that follow each other, encrypted.
 abbrev pub encryptedFour : List ℕ → List ℕ → ℕ → FourStates
 encryptedFour w s i =
-    each (encryptWords w) (record { a = counterState s i; b = counterState s (i + 1); c = counterState s (i + 2); d = counterState s (i + 3) })
+    each (encryptWords w) (record {
+      a = counterState s i;
+      b = counterState s (i + 1);
+      c = counterState s (i + 2);
+      d =
+          counterState s (i + 3);
+    })
 
 words-counter : {s : List ℕ} → Words 4 s → (i : ℕ) → Words 4 (counterState s i)
 unfolding counterState
 words-counter {s} h i =
     let at : (k : ℕ) → getD s k 0 < 2 ^ 32 = λ k. below-getD (lit< tt) (h .below) k in
-    record { size = refl; below = more (at 0) (more (at 1) (more (at 2) (more (mod-lt (getD s 3 0 + i) (lit< tt)) none))) }
+    record {
+      size = refl;
+      below = more (at 0)
+          (more (at 1) (more (at 2) (more (mod-lt (getD s 3 0 + i) (lit< tt)) none)));
+    }
 
 -- Its bytes are the counter block.
-bytes-counter : (a b c d i : ℕ) → d < 2 ^ 32 → counterBlock (bytesOf (a ∷ b ∷ c ∷ d ∷ [])) i ≡ bytesOf (a ∷ b ∷ c ∷ (d + i) % 2 ^ 32 ∷ [])
+bytes-counter : (a b c d i : ℕ) → d < 2 ^ 32
+    → counterBlock (bytesOf (a ∷ b ∷ c ∷ d ∷ [])) i ≡ bytesOf (a ∷ b ∷ c ∷ (d + i) % 2 ^ 32 ∷ [])
 unfolding counterBlock number digitsOf toDigits
 bytes-counter a b c d i h = rw (word-back d h)
 
@@ -56,15 +68,20 @@ module _ {w s : List ℕ} (words : Below (2 ^ 32) w) (state : Words 4 s) where
 
   -- A block of the note, or the part that there is of it.
   pub cryptedNote-part : (note : List ℕ) (i : ℕ) → 16 * i < length note
-      → take 16 (drop (16 * i) (ctr (encryptUnder w) (bytesOf s) note)) ≡ xors (bytesOf (encryptWords w (counterState s i))) (take 16 (drop (16 * i) note))
+      → take 16 (drop (16 * i) (ctr (encryptUnder w) (bytesOf s) note))
+      ≡ xors (bytesOf (encryptWords w (counterState s i))) (take 16 (drop (16 * i) note))
   cryptedNote-part note i h =
-      rw (← encrypted i) (ctr-block (encryptUnder w) (bytesOf s) (λ j. ap length (encrypted j) ∙ bytes-of-words (words-encrypted j) .size) note i h)
+      rw (← encrypted i) (ctr-block (encryptUnder w) (bytesOf s)
+      (λ j. ap length (encrypted j) ∙ bytes-of-words (words-encrypted j) .size) note i h)
 
   -- A whole block, by words.
   pub cryptedNote-block : {note : List ℕ} → Below 256 note → (i : ℕ) → 16 * i + 16 ≤ length note
-      → take 16 (drop (16 * i) (ctr (encryptUnder w) (bytesOf s) note)) ≡ bytesOf (xors (encryptWords w (counterState s i)) (wordsOf 4 (drop (16 * i) note)))
+      → take 16 (drop (16 * i) (ctr (encryptUnder w) (bytesOf s) note))
+      ≡ bytesOf (xors (encryptWords w (counterState s i)) (wordsOf 4 (drop (16 * i) note)))
   cryptedNote-block {note} below i h =
       let long : 16 ≤ length (drop (16 * i) note) = rw length-drop (omega arith) in
       cryptedNote-part note i (omega arith)
-      ∙ ap (xors (bytesOf (encryptWords w (counterState s i)))) (sym (block-at (drop (16 * i) note) (below-drop (16 * i) below) long))
-      ∙ sym (digitsOf-xors 8 4 (encryptWords w (counterState s i)) (wordsOf 4 (drop (16 * i) note)) (words-encrypted i .size ∙ sym (words-of-block (below-drop (16 * i) below) .size)))
+      ∙ ap (xors (bytesOf (encryptWords w (counterState s i))))
+      (sym (block-at (drop (16 * i) note) (below-drop (16 * i) below) long))
+      ∙ sym (digitsOf-xors 8 4 (encryptWords w (counterState s i)) (wordsOf 4 (drop (16 * i) note))
+      (words-encrypted i .size ∙ sym (words-of-block (below-drop (16 * i) below) .size)))

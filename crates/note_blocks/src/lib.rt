@@ -34,7 +34,8 @@ fn add_words(dst: &mut [u8], s: [u32; 4], src: &[u8], at: usize)
 // The whole block of the note at `at`, with an encrypted counter block s added.
 pub fn add_block(s: [u32; 4], note: &[u8], out: &mut [u8], at: usize)
     requires { ⌜ (at + 16 ≤ length (now note)) × (at + 16 ≤ length (now out)) ⌝ }
-    ensures { λ r. ⌜ now (out .exit) ≡ putMid at (at + 16 - at) (now (out .entry)) (bytesOf (xors s (wordsOf 4 (drop at (now (note .entry)))))) ⌝ }
+    ensures { λ r. ⌜ now (out .exit) ≡ putMid at (at + 16 - at) (now (out .entry))
+        (bytesOf (xors s (wordsOf 4 (drop at (now (note .entry)))))) ⌝ }
 {
     let end = at + 16;
     add_words(&mut out[at..end], s, note, at);

@@ -24,7 +24,9 @@ fn write_four(
 )
     requires { ⌜ ValidTables (now «word_tables») (now «byte_tables») ⌝ }
     requires { ⌜ NoteReady (now expanded) counter (now note) (now out) × (16 * i + 64 ≤ length (now note)) ⌝ }
-    ensures { λ r. ⌜ (NoteFilled (16 * i) (cryptedNote (now (expanded .entry)) counter (now (note .entry))) (now (out .entry)) → NoteFilled (16 * i + 64) (cryptedNote (now (expanded .entry)) counter (now (note .entry))) (now (out .exit))) ⌝ }
+    ensures { λ r. ⌜ (NoteFilled (16 * i) (cryptedNote (now (expanded .entry)) counter (now (note .entry)))
+        (now (out .entry)) → NoteFilled (16 * i + 64) (cryptedNote (now (expanded .entry)) counter (now (note .entry)))
+        (now (out .exit))) ⌝ }
 {
     let s = note_blocks::encrypt_four(word_tables, byte_tables, expanded, counter, i);
     let a = s.a;
@@ -53,7 +55,8 @@ fn write_fours(
 ) -> u32
     requires { ⌜ ValidTables (now «word_tables») (now «byte_tables») ⌝ }
     requires { ⌜ NoteReady (now expanded) counter (now note) (now out) ⌝ }
-    ensures { λ r. ⌜ (16 * r ≤ length (now (note .entry))) × NoteFilled (16 * r) (cryptedNote (now (expanded .entry)) counter (now (note .entry))) (now (out .exit)) ⌝ }
+    ensures { λ r. ⌜ (16 * r ≤ length (now (note .entry)))
+        × NoteFilled (16 * r) (cryptedNote (now (expanded .entry)) counter (now (note .entry))) (now (out .exit)) ⌝ }
 {
     if word_tables.len() != 8 {
         return 0;
@@ -79,7 +82,8 @@ fn write_blocks(
 ) -> u32
     requires { ⌜ ValidTables (now «word_tables») (now «byte_tables») ⌝ }
     requires { ⌜ NoteReady (now expanded) counter (now note) (now out) ⌝ }
-    ensures { λ r. ⌜ (16 * r ≤ length (now (note .entry))) × (length (now (note .entry)) < 16 * r + 16) × NoteFilled (16 * r) (cryptedNote (now (expanded .entry)) counter (now (note .entry))) (now (out .exit)) ⌝ }
+    ensures { λ r. ⌜ (16 * r ≤ length (now (note .entry))) × (length (now (note .entry)) < 16 * r + 16)
+        × NoteFilled (16 * r) (cryptedNote (now (expanded .entry)) counter (now (note .entry))) (now (out .exit)) ⌝ }
 {
     let mut i = write_fours(word_tables, byte_tables, expanded, counter, note, out);
     let mut at = 16 * i as usize;
@@ -135,7 +139,8 @@ pub fn crypt_note(
     out: &mut [u8],
 ) -> Answer
     requires { ⌜ CipherReady (now «word_tables») (now «byte_tables») (now expanded) ⌝ }
-    ensures { λ r. ⌜ Answered (cryptNoteBy [] (encryptUnder (now (expanded .entry))) (now (counter .entry)) (now (note .entry)) (now (out .entry))) (now (out .entry)) r (now (out .exit)) ⌝ }
+    ensures { λ r. ⌜ Answered (cryptNoteBy [] (encryptUnder (now (expanded .entry))) (now (counter .entry))
+        (now (note .entry)) (now (out .entry))) (now (out .entry)) r (now (out .exit)) ⌝ }
 {
     if counter.len() != 16 {
         return Answer::Refused(3);

@@ -15,7 +15,8 @@ use Rattle.call_answer.specs.Answer.{Answered}
 use Rattle.call_answer.specs.Judging.{refused-by, passed-first, went, answered-refused, answered-same}
 use Rattle.book_form.specs.BookAnswer.{bookAnswer}
 
-pub wrong-book : (book : List ℕ) (i : ℕ) (out : List ℕ) {r : Answer} {c : ℕ} → r ≡ bookAnswer 1 asItIs book → r ≡ Refused c → Answered (pageCall book i out) out r out
+pub wrong-book : (book : List ℕ) (i : ℕ) (out : List ℕ) {r : Answer} {c : ℕ} → r ≡ bookAnswer 1 asItIs book
+    → r ≡ Refused c → Answered (pageCall book i out) out r out
 unfolding pageCall pageChecks
 wrong-book book i out e h = refused-by (formAndRecords 1 asItIs book) _ (recordCount (contents book)) _ out e h
 
@@ -28,7 +29,8 @@ module _ (book : List ℕ) {records : ℕ} (e : Accepted records ≡ bookAnswer 
 
   module _ (i : ℕ) (out : List ℕ) where
     -- What is left of the call.
-    after-book : pageCall book i out ≡ judged (sheetCheck i book ∷ outputCheck (32 * lineCount i book) out ∷ []) (accepted (lineCount i book) (page i book))
+    after-book : pageCall book i out ≡ judged (sheetCheck i book ∷ outputCheck (32 * lineCount i book) out ∷ [])
+        (accepted (lineCount i book) (page i book))
     unfolding pageCall pageChecks
     after-book = passed-first (formAndRecords 1 asItIs book) _ _ checked
 
@@ -37,6 +39,7 @@ module _ (book : List ℕ) {records : ℕ} (e : Accepted records ≡ bookAnswer 
     no-sheet h = answered-refused out (after-book ∙ judged-false (le-ltb i (sheetCount book) h) 13 _ _)
 
     pub a-sheet : {r : Answer} {exit : List ℕ} → i < sheetCount book
-        → Answered (judged (outputCheck (32 * lineCount i book) out ∷ []) (accepted (lineCount i book) (page i book))) out r exit → Answered (pageCall book i out) out r exit
+        → Answered (judged (outputCheck (32 * lineCount i book) out ∷ []) (accepted (lineCount i book) (page i book)))
+        out r exit → Answered (pageCall book i out) out r exit
     unfolding sheetCheck
     a-sheet h g = answered-same (after-book ∙ judged-true (lt-ltb i (sheetCount book) h) 13 _ _) g

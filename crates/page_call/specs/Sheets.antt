@@ -1,4 +1,5 @@
--- The sheet that a page shows, where code finds it in the book, and the call's answer by each way out.
+-- The sheet that a page shows, where code finds it in the book, and the call's answer by each way
+-- out.
 use Prim.Native.Nat.{ℕ, _+_, _-_, _*_, _/_, _≤_, _<_}
 use mathlib.Core.List.{List, [], _∷_, _++_}
 use mathlib.Core.Path.{_≡_, sym, ap, _∙_}
@@ -19,7 +20,8 @@ use Rattle.call_answer.specs.Judging.{answered-refused, answered-accepted}
 use Rattle.book_sheets.specs.declared.Cursor.{Cursor}
 use Rattle.book_sheets.specs.Cursors.{entryAt, Next, at-end, body-part, Reached}
 
-module _ {book : List ℕ} (i : ℕ) (f : Formed book) (there : i < sheetCount book) {c n : Cursor} (r : Reached book i c) (s : Next book c n) where
+module _ {book : List ℕ} (i : ℕ) (f : Formed book) (there : i < sheetCount book) {c n : Cursor} (r : Reached book i c)
+    (s : Next book c n) where
   entry-at : entryAt book c ≡ sheetEntry i book
   entry-at = ap (λ (k : ℕ). take 24 (drop k book)) (r .from) ∙ ap (take 24) (sym (drop-drop (24 * i) 4 book))
 
@@ -40,14 +42,17 @@ module _ {book : List ℕ} (i : ℕ) (f : Formed book) (there : i < sheetCount b
 
   -- Check 4 fails, or the page is written.
   pub wrong-length : (out : List ℕ) → (length out ≡ 32 * ((n .at - c .at) / 16 + 1) → ⊥)
-      → Answered (judged (outputCheck (32 * lineCount i book) out ∷ []) (accepted (lineCount i book) (page i book))) out (Refused 4) out
+      → Answered (judged (outputCheck (32 * lineCount i book) out ∷ []) (accepted (lineCount i book) (page i book))) out
+      (Refused 4) out
   unfolding outputCheck
   wrong-length out h = answered-refused out (judged-false (ne-eqb _ _ (rw records-between at h)) 4 [] _)
 
   pub page-written : (out : List ℕ) {exit : List ℕ} → length out ≡ 32 * ((n .at - c .at) / 16 + 1)
       → exit ≡ heading ++ lines (pieces 16 ((n .at - c .at) / 16) (take (n .at - c .at) (drop (c .at) book)))
-      → Answered (judged (outputCheck (32 * lineCount i book) out ∷ []) (accepted (lineCount i book) (page i book))) out (Accepted ((n .at - c .at) / 16 + 1)) exit
+      → Answered (judged (outputCheck (32 * lineCount i book) out ∷ []) (accepted (lineCount i book) (page i book))) out
+      (Accepted ((n .at - c .at) / 16 + 1)) exit
   unfolding outputCheck page
   page-written out h e =
       rw records-between
-      (answered-accepted out _ (judged-true (eq-eqb _ _ (rw records-between at h)) 4 [] _ ∙ judged-pass none _) (rw (body-between, records-between) at e))
+      (answered-accepted out _ (judged-true (eq-eqb _ _ (rw records-between at h)) 4 [] _ ∙ judged-pass none _)
+      (rw (body-between, records-between) at e))

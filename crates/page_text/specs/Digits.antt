@@ -35,7 +35,8 @@ unfolding frontField rightAligned decimal
 field-last k n = by-tests (ltb n 10) (eqb (n / 10) 0) refl refl
   where
     by-tests : (t u : Bool) → ltb n 10 ≡ t → eqb (n / 10) 0 ≡ u
-        → spaces (suc k - length (choose t [] (decimal k (n / 10)) ++ ((48 + n % 10) ∷ []))) ++ (choose t [] (decimal k (n / 10)) ++ ((48 + n % 10) ∷ []))
+        → spaces (suc k - length (choose t [] (decimal k (n / 10)) ++ ((48 + n % 10) ∷ [])))
+        ++ (choose t [] (decimal k (n / 10)) ++ ((48 + n % 10) ∷ []))
         ≡ choose u (spaces k) (spaces (k - length (decimal k (n / 10))) ++ decimal k (n / 10)) ++ ((48 + n % 10) ∷ [])
     by-tests true true e h = let s : suc k - 1 ≡ k = omega arith in rw s
     by-tests true false e h = let s : n < 10 = ltb-true n 10 e in absurd (eqb-false (n / 10) 0 h (omega arith))
@@ -44,13 +45,15 @@ field-last k n = by-tests (ltb n 10) (eqb (n / 10) 0) refl refl
         let z : n / 10 ≡ 0 = eqb-true (n / 10) 0 h in
         absurd (omega arith)
     by-tests false false e h =
-        let s : suc k - length (decimal k (n / 10) ++ ((48 + n % 10) ∷ [])) ≡ k - length (decimal k (n / 10)) = omega (arith, length-append (decimal k (n / 10)) ((48 + n % 10) ∷ [])) in
+        let s : suc k - length (decimal k (n / 10) ++ ((48 + n % 10) ∷ [])) ≡ k - length (decimal k (n / 10)) =
+        omega (arith, length-append (decimal k (n / 10)) ((48 + n % 10) ∷ [])) in
         rw s (sym (append-assoc (spaces (k - length (decimal k (n / 10)))) (decimal k (n / 10)) _))
 
 pub front-last : (k rest : ℕ) → frontField (suc k) rest ≡ frontField k (rest / 10) ++ (shownDigit rest ∷ [])
 unfolding frontField shownDigit
 front-last k zero = spaces-last k
-front-last k (suc m) = let some : eqb (suc m) 0 ≡ false = ne-eqb (suc m) 0 (λ e. omega (arith, e)) in rw some (field-last k (suc m))
+front-last k (suc m) = let some : eqb (suc m) 0 ≡ false = ne-eqb (suc m) 0 (λ e. omega (arith, e)) in
+    rw some (field-last k (suc m))
 
 -- ---- a field that is written from its end: characters from i on are there, and `rest` is left of
 -- the number n
@@ -61,10 +64,12 @@ pub record DigitsWritten (w n i rest : ℕ) (out : List ℕ) : Type 0 where
   pub whole : frontField i rest ++ drop i out ≡ numberField w n
 
 drop-set : (k : ℕ) (out : List ℕ) (c : ℕ) → k < length out → drop k (set out k c) ≡ c ∷ drop (suc k) out
-drop-set k out c h = ap (drop k) (set-split out k c h) ∙ drop-at (take k out) (c ∷ drop (suc k) out) k (length-take-le k out (omega arith))
+drop-set k out c h = ap (drop k) (set-split out k c h)
+    ∙ drop-at (take k out) (c ∷ drop (suc k) out) k (length-take-le k out (omega arith))
 
 -- The last character.
-pub written-start : (n : ℕ) (out : List ℕ) → 0 < length out → DigitsWritten (length out) n (length out - 1) (n / 10) (set out (length out - 1) (48 + n % 10))
+pub written-start : (n : ℕ) (out : List ℕ) → 0 < length out
+    → DigitsWritten (length out) n (length out - 1) (n / 10) (set out (length out - 1) (48 + n % 10))
 written-start n out h =
     let k : ℕ = length out - 1 in
     let l : length out ≡ suc k = omega arith in
@@ -73,12 +78,14 @@ written-start n out h =
       size = length-set out k _;
       inside = omega arith;
       whole =
-          ap (λ (cs : List ℕ). frontField k (n / 10) ++ cs) (drop-set k out (48 + n % 10) (omega arith) ∙ ap (λ (cs : List ℕ). (48 + n % 10) ∷ cs) none)
+          ap (λ (cs : List ℕ). frontField k (n / 10) ++ cs)
+          (drop-set k out (48 + n % 10) (omega arith) ∙ ap (λ (cs : List ℕ). (48 + n % 10) ∷ cs) none)
           ∙ sym (field-last k n) ∙ ap (λ (w : ℕ). numberField w n) (sym l);
     }
 
 -- One character more.
-pub written-next : {w n i rest : ℕ} {out : List ℕ} → DigitsWritten w n i rest out → 0 < i → DigitsWritten w n (i - 1) (rest / 10) (set out (i - 1) (shownDigit rest))
+pub written-next : {w n i rest : ℕ} {out : List ℕ} → DigitsWritten w n i rest out → 0 < i
+    → DigitsWritten w n (i - 1) (rest / 10) (set out (i - 1) (shownDigit rest))
 written-next {w} {n} {i} {rest} {out} h pos =
     let k : ℕ = i - 1 in
     let e : i ≡ suc k = omega arith in
@@ -88,7 +95,8 @@ written-next {w} {n} {i} {rest} {out} h pos =
       inside = omega (arith, h .inside);
       whole =
           rw (drop-set k out (shownDigit rest) (omega (arith, h .inside, h .size)))
-          (sym (append-assoc (frontField k (rest / 10)) (shownDigit rest ∷ []) (drop (suc k) out)) ∙ ap (λ (l : List ℕ). l ++ drop (suc k) out) (sym (front-last k rest)) ∙ whole);
+          (sym (append-assoc (frontField k (rest / 10)) (shownDigit rest ∷ []) (drop (suc k) out))
+          ∙ ap (λ (l : List ℕ). l ++ drop (suc k) out) (sym (front-last k rest)) ∙ whole);
     }
 
 pub written-end : {w n rest : ℕ} {out : List ℕ} → DigitsWritten w n 0 rest out → out ≡ numberField w n
@@ -102,16 +110,20 @@ written-end {rest = rest} {out = out} h = ap (λ (l : List ℕ). l ++ out) (sym 
 -- ---- a field put into a line, and the character after it
 
 pub field-put : (at w n c : ℕ) (out : List ℕ) → at + w < length out
-    → take (at + w + 1) (set (putMid at (at + w - at) out (numberField w n)) (at + w) c) ≡ take at out ++ (numberField w n ++ (c ∷ []))
+    → take (at + w + 1) (set (putMid at (at + w - at) out (numberField w n)) (at + w) c) ≡ take at out
+    ++ (numberField w n ++ (c ∷ []))
 field-put at w n c out h =
-    let size : length (putMid at (at + w - at) out (numberField w n)) ≡ length out = length-part at w out (numberField w n) (length-field w n) (omega arith) in
+    let size : length (putMid at (at + w - at) out (numberField w n)) ≡ length out =
+    length-part at w out (numberField w n) (length-field w n) (omega arith) in
     rw add-one (take-suc-set _ (at + w) c (omega arith))
     ∙ fill-part at w out (numberField w n) (c ∷ []) (length-field w n) (omega arith) refl
 
 -- Five fields put one after the other make a line; o, p, q, r and s are the output after each of
 -- them.
-pub line-put : (a b c d e : ℕ) (o p q r s : List ℕ) → take 11 o ≡ numberField 10 a ++ (32 ∷ []) → take 22 p ≡ take 11 o ++ (numberField 10 b ++ (32 ∷ []))
+pub line-put : (a b c d e : ℕ) (o p q r s : List ℕ) → take 11 o ≡ numberField 10 a ++ (32 ∷ [])
+    → take 22 p ≡ take 11 o ++ (numberField 10 b ++ (32 ∷ []))
     → take 24 q ≡ take 22 p ++ (numberField 1 c ++ (32 ∷ [])) → take 28 r ≡ take 24 q ++ (numberField 3 d ++ (32 ∷ []))
     → take 32 s ≡ take 28 r ++ (numberField 3 e ++ (10 ∷ [])) → length s ≡ 32
     → s ≡ fields (numberField 10 a) (numberField 10 b) (numberField 1 c) (numberField 3 d) (numberField 3 e)
-line-put a b c d e o p q r s ho hp hq hr hs l = sym (take-all 32 s (le-of-eq l)) ∙ rw (hs, hr, hq, hp, ho) (simp append-assoc)
+line-put a b c d e o p q r s ho hp hq hr hs l = sym (take-all 32 s (le-of-eq l))
+    ∙ rw (hs, hr, hq, hp, ho) (simp append-assoc)

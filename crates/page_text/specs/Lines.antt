@@ -18,21 +18,31 @@ pub record Lined (count : ℕ) (body out : List ℕ) (at to left : ℕ) : Type 0
   pub size : length out ≡ 32 * (count + 1)
   pub whole : take to out ++ lines (pieces 16 left (drop at body)) ≡ heading ++ lines (pieces 16 count body)
 
-pub lined-start : (count : ℕ) (body : List ℕ) {out : List ℕ} → length out ≡ 32 * (count + 1) → take 32 out ≡ heading → Lined count body out 0 32 count
-lined-start count body l h = record { place = omega arith; beside = refl; size = l; whole = ap (λ (t : List ℕ). t ++ lines (pieces 16 count body)) h }
+pub lined-start : (count : ℕ) (body : List ℕ) {out : List ℕ} → length out ≡ 32 * (count + 1) → take 32 out ≡ heading
+    → Lined count body out 0 32 count
+lined-start count body l h = record {
+  place = omega arith;
+  beside = refl;
+  size = l;
+  whole =
+      ap (λ (t : List ℕ). t ++ lines (pieces 16 count body)) h;
+}
 
 module _ {count : ℕ} {body out : List ℕ} {at to left : ℕ} (w : Lined count body out at to left) where
   pub line-room : 0 < left → to + 32 ≤ length out
   line-room h = omega (arith, w .place, w .beside, w .size)
 
-  pub lined-next : 0 < left → Lined count body (putMid to (to + 32 - to) out (line (take 16 (drop at body)))) (at + 16) (to + 32) (left - 1)
+  pub lined-next : 0 < left → Lined count body (putMid to (to + 32 - to) out (line (take 16 (drop at body)))) (at + 16)
+      (to + 32) (left - 1)
   unfolding lines
   lined-next h =
       record {
         place = omega (arith, w .place);
         beside = omega (arith, w .beside);
-        size = length-part to 32 out (line (take 16 (drop at body))) (length-line (take 16 (drop at body))) (line-room h) ∙ w .size;
-        whole = fill-part to 32 out (line (take 16 (drop at body))) _ (length-line (take 16 (drop at body))) (line-room h) (rw (pieces-next 16 left at body h) at (w .whole));
+        size = length-part to 32 out (line (take 16 (drop at body))) (length-line (take 16 (drop at body)))
+            (line-room h) ∙ w .size;
+        whole = fill-part to 32 out (line (take 16 (drop at body))) _ (length-line (take 16 (drop at body)))
+            (line-room h) (rw (pieces-next 16 left at body h) at (w .whole));
       }
 
   pub lined-end : left ≡ 0 → out ≡ heading ++ lines (pieces 16 count body)

@@ -43,7 +43,8 @@ fn wide(byte: u8) -> usize
 // A field of some width at a place of a line, and the character after it.
 fn put_field(out: &mut [u8], at: usize, width: usize, n: usize, after: u8)
     requires { ⌜ (0 < width) × (at + width < length (now out)) ⌝ }
-    ensures { λ r. ⌜ take (at + width + 1) (now (out .exit)) ≡ take at (now (out .entry)) ++ (numberField width n ++ (after ∷ [])) ⌝ }
+    ensures { λ r. ⌜ take (at + width + 1) (now (out .exit)) ≡ take at (now (out .entry))
+        ++ (numberField width n ++ (after ∷ [])) ⌝ }
 {
     let end = at + width;
     write_number(&mut out[at..end], n);

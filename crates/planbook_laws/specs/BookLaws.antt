@@ -14,8 +14,10 @@ use Rattle.clefia_spec.specs.Words.{fromDigits, Below, more}
 use Rattle.clefia_laws.specs.SizedLaws.{Bytes, sized-append, sized-take, sized-drop}
 use Rattle.planbook_spec.specs.Outcome.{check}
 use Rattle.planbook_spec.specs.OutcomeLaws.{AllPass, pass-head, pass-tail}
-use Rattle.planbook_spec.specs.Book.{number, pieces, sheetCount, contents, recordCount, formChecks, eachBody, sheetsHold, recordsCheck, asItIs, mapBodies}
-use Rattle.planbook_laws.specs.Undoing.{Every, nothing, both, Through, each-keeps, each-through, each-asItIs, sheets-through}
+use Rattle.planbook_spec.specs.Book.{number, pieces, sheetCount, contents, recordCount, formChecks, eachBody}
+use Rattle.planbook_spec.specs.Book.{sheetsHold, recordsCheck, asItIs, mapBodies}
+use Rattle.planbook_laws.specs.Undoing.{Every, nothing, both, Through, each-keeps, each-through, each-asItIs}
+use Rattle.planbook_laws.specs.Undoing.{sheets-through}
 
 -- ---- pieces
 
@@ -25,19 +27,25 @@ unfolding pieces
 pieces-append k zero xs ys e = refl
 pieces-append k (suc n) xs ys e =
     let fits : k ≤ length xs = omega arith in
-    rw (take-append-le k xs ys fits, drop-append-le k xs ys fits, pieces-append k n (drop k xs) ys (omega (arith, length-drop k xs)))
+    rw (
+      take-append-le k xs ys fits,
+      drop-append-le k xs ys fits,
+      pieces-append k n (drop k xs) ys (omega (arith, length-drop k xs)),
+    )
 
 pub pieces-bytes : (k n m : ℕ) {xs : List ℕ} → Bytes (k * n + m) xs → Every (Bytes k) (pieces k n xs)
 unfolding pieces
 pieces-bytes k zero m b = nothing
-pieces-bytes k (suc n) m b = both (sized-take k (k * n + m) b (omega arith)) (pieces-bytes k n m (sized-drop k (k * n + m) b (omega arith)))
+pieces-bytes k (suc n) m b = both (sized-take k (k * n + m) b (omega arith))
+    (pieces-bytes k n m (sized-drop k (k * n + m) b (omega arith)))
 
 -- ---- what follows the head
 
 abbrev mappedRest : (List ℕ → List ℕ → List ℕ) → ℕ → List ℕ → List ℕ
 mappedRest f n bs = take (24 * n) bs ++ eachBody f (pieces 24 n bs) (drop (24 * n) bs)
 
-module _ {f g h : List ℕ → List ℕ → List ℕ} (n : ℕ) (bs : List ℕ) (b : Bytes (24 * n + 16 * recordCount (pieces 24 n bs)) bs) (t : Every (Through f g h) (pieces 24 n bs)) where
+module _ {f g h : List ℕ → List ℕ → List ℕ} (n : ℕ) (bs : List ℕ)
+    (b : Bytes (24 * n + 16 * recordCount (pieces 24 n bs)) bs) (t : Every (Through f g h) (pieces 24 n bs)) where
   front : Bytes (24 * n) (take (24 * n) bs)
   front = sized-take (24 * n) (16 * recordCount (pieces 24 n bs)) b refl
 
@@ -57,13 +65,16 @@ module _ {f g h : List ℕ → List ℕ → List ℕ} (n : ℕ) (bs : List ℕ) 
       ∙ ap (pieces 24 n) (take-append-drop (24 * n) bs)
 
   rest-keeps : Bytes (24 * n + 16 * recordCount (pieces 24 n bs)) (mappedRest f n bs)
-  rest-keeps = sized-append (24 * n) (16 * recordCount (pieces 24 n bs)) front (each-keeps t (drop (24 * n) bs) back) refl
+  rest-keeps = sized-append (24 * n) (16 * recordCount (pieces 24 n bs)) front
+      (each-keeps t (drop (24 * n) bs) back) refl
 
   rest-through : mappedRest g n (mappedRest f n bs) ≡ mappedRest h n bs
   rest-through =
-      rw (rest-front, rest-bodies, rest-contents) (ap (λ (x : List ℕ). take (24 * n) bs ++ x) (each-through t (drop (24 * n) bs) back))
+      rw (rest-front, rest-bodies, rest-contents)
+      (ap (λ (x : List ℕ). take (24 * n) bs ++ x) (each-through t (drop (24 * n) bs) back))
 
-  rest-sheets : sheetsHold g (pieces 24 n (mappedRest f n bs)) (drop (24 * n) (mappedRest f n bs)) ≡ sheetsHold h (pieces 24 n bs) (drop (24 * n) bs)
+  rest-sheets : sheetsHold g (pieces 24 n (mappedRest f n bs)) (drop (24 * n) (mappedRest f n bs))
+      ≡ sheetsHold h (pieces 24 n bs) (drop (24 * n) bs)
   rest-sheets = rw (rest-bodies, rest-contents) (sheets-through t (drop (24 * n) bs) back)
 
 -- ---- whole books
@@ -107,7 +118,8 @@ shape kind (a ∷ b ∷ c ∷ []) r p = absurd (false≢true (pass-head p))
 shape kind (a ∷ b ∷ c ∷ d ∷ bs) r p =
     let first : a ≡ kind = eqb-true a kind (both-true _ _ (pass-head (pass-tail p)) .0) in
     let n : ℕ = fromDigits 256 (c ∷ d ∷ []) in
-    let size : suc (suc (suc (suc (length bs)))) ≡ 4 + 24 * n + 16 * recordCount (pieces 24 n bs) = formed kind (a ∷ b ∷ c ∷ d ∷ bs) p .size in
+    let size : suc (suc (suc (suc (length bs)))) ≡ 4 + 24 * n + 16 * recordCount (pieces 24 n bs) =
+    formed kind (a ∷ b ∷ c ∷ d ∷ bs) p .size in
     subst (λ (x : ℕ). Shaped kind (x ∷ b ∷ c ∷ d ∷ bs)) (sym first)
     (shaped b c d (record { size = omega (arith, size); below = below-tail (below-tail (below-tail (below-tail r))) }))
 
@@ -118,26 +130,36 @@ shaped-entries (shaped b c d {bs = bs} q) = pieces-bytes 24 (fromDigits 256 (c �
 
 module _ {f g h : List ℕ → List ℕ → List ℕ} (kind kind′ : ℕ) where
   -- The changed book has the length of the book, its contents, and its checks.
-  pub mapBodies-length : {book : List ℕ} → Shaped kind book → Every (Through f g h) (contents book) → length (mapBodies kind′ f book) ≡ length book
+  pub mapBodies-length : {book : List ℕ} → Shaped kind book → Every (Through f g h) (contents book)
+      → length (mapBodies kind′ f book) ≡ length book
   unfolding mapBodies number
   mapBodies-length (shaped b c d {bs = bs} q) t =
       ap (λ (k : ℕ). suc (suc (suc (suc k)))) (rest-keeps _ bs q t .size ∙ sym (q .size))
 
-  pub mapBodies-contents : {book : List ℕ} → Shaped kind book → Every (Through f g h) (contents book) → contents (mapBodies kind′ f book) ≡ contents book
+  pub mapBodies-contents : {book : List ℕ} → Shaped kind book → Every (Through f g h) (contents book)
+      → contents (mapBodies kind′ f book) ≡ contents book
   unfolding mapBodies number
   mapBodies-contents (shaped b c d {bs = bs} q) t = rest-contents _ bs q t
 
-  pub mapBodies-form : {book : List ℕ} → Shaped kind book → Every (Through f g h) (contents book) → formChecks kind′ (mapBodies kind′ f book) ≡ formChecks kind book
+  pub mapBodies-form : {book : List ℕ} → Shaped kind book → Every (Through f g h) (contents book)
+      → formChecks kind′ (mapBodies kind′ f book) ≡ formChecks kind book
   unfolding mapBodies number formChecks
   mapBodies-form (shaped b c d {bs = bs} q) t =
-      rw (rest-keeps _ bs q t .size ∙ sym (q .size), rest-contents _ bs q t, eq-eqb kind kind refl, eq-eqb kind′ kind′ refl)
+      rw (
+        rest-keeps _ bs q t .size ∙ sym (q .size),
+        rest-contents _ bs q t,
+        eq-eqb kind kind refl,
+        eq-eqb kind′ kind′ refl,
+      )
 
-  pub mapBodies-records : {book : List ℕ} → Shaped kind book → Every (Through f g h) (contents book) → recordsCheck g (mapBodies kind′ f book) ≡ recordsCheck h book
+  pub mapBodies-records : {book : List ℕ} → Shaped kind book → Every (Through f g h) (contents book)
+      → recordsCheck g (mapBodies kind′ f book) ≡ recordsCheck h book
   unfolding mapBodies number recordsCheck
   mapBodies-records (shaped b c d {bs = bs} q) t = ap (check 11) (rest-sheets _ bs q t)
 
   -- f applied to the bodies, and then g, comes to h.
-  pub mapBodies-through : {book : List ℕ} → Shaped kind book → Every (Through f g h) (contents book) → mapBodies kind g (mapBodies kind′ f book) ≡ mapBodies kind h book
+  pub mapBodies-through : {book : List ℕ} → Shaped kind book → Every (Through f g h) (contents book)
+      → mapBodies kind g (mapBodies kind′ f book) ≡ mapBodies kind h book
   unfolding mapBodies number
   mapBodies-through (shaped b c d {bs = bs} q) t = ap (λ (l : List ℕ). kind ∷ b ∷ c ∷ d ∷ l) (rest-through _ bs q t)
 
@@ -147,5 +169,6 @@ unfolding mapBodies number
 mapBodies-asItIs {kind} (shaped b c d {bs = bs} q) =
     let n : ℕ = fromDigits 256 (c ∷ d ∷ []) in
     ap (λ (l : List ℕ). kind ∷ b ∷ c ∷ d ∷ l)
-    (ap (λ (l : List ℕ). take (24 * n) bs ++ l) (each-asItIs (pieces 24 n bs) (drop (24 * n) bs) (sized-drop (24 * n) _ q refl))
+    (ap (λ (l : List ℕ). take (24 * n) bs ++ l)
+    (each-asItIs (pieces 24 n bs) (drop (24 * n) bs) (sized-drop (24 * n) _ q refl))
     ∙ take-append-drop (24 * n) bs)

@@ -9,7 +9,8 @@ use lib.Dec.{eqb}
 use lib.ListN.{length}
 use Rattle.clefia_spec.specs.Words.{KeyLength, sixteen, twentyFour, thirtyTwo}
 use Rattle.planbook_spec.specs.Outcome.{Outcome, refused, Check, judged}
-use Rattle.planbook_spec.specs.OutcomeLaws.{AllPass, none, more, pass-head, pass-append, pass-check, judged-append, judged-pass, judged-false}
+use Rattle.planbook_spec.specs.OutcomeLaws.{AllPass, none, more, pass-head, pass-append, pass-check, judged-append}
+use Rattle.planbook_spec.specs.OutcomeLaws.{judged-pass, judged-false}
 use Rattle.planbook_spec.specs.Checks.{keyCheck, wayCheck, blockCheck, outputCheck, wordsCheck, wordsAndWay}
 
 -- The three ways.
@@ -85,7 +86,8 @@ pub wordsAndWay-passes : (words : List ℕ) {w : ℕ} → WordsLength (length wo
 wordsAndWay-passes words k w = pass-append (words-passes k) (way-passes w)
 
 -- Words that have passed in one call pass in any other, by any permitted way.
-pub words-again : (words : List ℕ) {w : ℕ} {cs : List Check} → AllPass (wordsCheck (length words) ∷ cs) → Way w → AllPass (wordsAndWay words w)
+pub words-again : (words : List ℕ) {w : ℕ} {cs : List Check} → AllPass (wordsCheck (length words) ∷ cs) → Way w
+    → AllPass (wordsAndWay words w)
 words-again words p w = wordsAndWay-passes words (words-permitted p) w
 
 -- ---- one of these checks at the head of a list, as code meets it

@@ -12,7 +12,8 @@ use Rattle.clefia_laws.specs.DigitLaws.{length-digitsOf}
 use Rattle.clefia_laws.specs.KeyLaws.{length-constants, length-expandKey}
 use Rattle.planbook_spec.specs.Outcome.{accepted, judged}
 use Rattle.planbook_spec.specs.OutcomeLaws.{pass-tail, passed}
-use Rattle.planbook_spec.specs.Checks.{wordsFromBytes, wordsAndWay, constantCount, expandedCount, constantsCall, expandKeyCall, blockChecks, encryptBlockCall, decryptBlockCall}
+use Rattle.planbook_spec.specs.Checks.{wordsFromBytes, wordsAndWay, constantCount, expandedCount, constantsCall}
+use Rattle.planbook_spec.specs.Checks.{expandKeyCall, blockChecks, encryptBlockCall, decryptBlockCall}
 use Rattle.planbook_laws.specs.CheckLaws.{key-permitted, output-size, block-size}
 use Rattle.planbook_spec.specs.Book.{encryptBookCall, decryptBookCall}
 use Rattle.planbook_spec.specs.Note.{cryptNoteBy, cryptNoteCall}
@@ -26,21 +27,27 @@ use Rattle.planbook_laws.specs.PageLaws.{length-page, page-passed}
 words-length : (ws : List ℕ) (n : ℕ) → length ws ≡ n → length (bytesOf ws) ≡ 4 * n
 words-length ws n e = length-digitsOf 256 4 ws ∙ ap (λ (k : ℕ). k * 4) e ∙ mul-comm n 4
 
-pub constants-length : (keyLength : ℕ) (out : List ℕ) {n : ℕ} {bs : List ℕ} → constantsCall keyLength out ≡ accepted n bs → length bs ≡ length out
+pub constants-length : (keyLength : ℕ) (out : List ℕ) {n : ℕ} {bs : List ℕ}
+    → constantsCall keyLength out ≡ accepted n bs → length bs ≡ length out
 unfolding constantsCall constantCount
 constants-length keyLength out a =
     let p = passed _ _ _ a in
-    ap length (sym (p .sameBytes)) ∙ words-length _ _ (length-constants (key-permitted (p .checks))) ∙ sym (output-size out (pass-tail (p .checks)))
+    ap length (sym (p .sameBytes)) ∙ words-length _ _ (length-constants (key-permitted (p .checks)))
+    ∙ sym (output-size out (pass-tail (p .checks)))
 
-pub expandKey-length : (key : List ℕ) (way : ℕ) (out : List ℕ) {n : ℕ} {bs : List ℕ} → Below 256 key → expandKeyCall key way out ≡ accepted n bs → length bs ≡ length out
+pub expandKey-length : (key : List ℕ) (way : ℕ) (out : List ℕ) {n : ℕ} {bs : List ℕ} → Below 256 key
+    → expandKeyCall key way out ≡ accepted n bs → length bs ≡ length out
 unfolding expandKeyCall expandedCount
 expandKey-length key way out r a =
     let p = passed _ _ _ a in
-    ap length (sym (p .sameBytes)) ∙ words-length _ _ (length-expandKey (key-permitted (p .checks)) r) ∙ sym (output-size out (pass-tail (pass-tail (p .checks))))
+    ap length (sym (p .sameBytes)) ∙ words-length _ _ (length-expandKey (key-permitted (p .checks)) r)
+    ∙ sym (output-size out (pass-tail (pass-tail (p .checks))))
 
-module _ (words : List ℕ) (way : ℕ) (block out : List ℕ) {n : ℕ} {bs : List ℕ} (bytes : Below 256 words) (below : Below 256 block) where
+module _ (words : List ℕ) (way : ℕ) (block out : List ℕ) {n : ℕ} {bs : List ℕ} (bytes : Below 256 words)
+    (below : Below 256 block) where
   block-length : {F G : List ℕ → List ℕ} → Undone (Bytes 16) F G
-      → judged (blockChecks (wordsAndWay words way) block out) (accepted 1 (F block)) ≡ accepted n bs → length bs ≡ length out
+      → judged (blockChecks (wordsAndWay words way) block out) (accepted 1 (F block)) ≡ accepted n bs
+      → length bs ≡ length out
   unfolding blockChecks
   block-length u a =
       let p = passed _ _ _ a in
@@ -56,7 +63,8 @@ module _ (words : List ℕ) (way : ℕ) (block out : List ℕ) {n : ℕ} {bs : L
   unfolding decryptBlockCall
   decryptBlock-length = block-length (cipherFromBytes bytes .decrypted)
 
-module _ (words : List ℕ) (way : ℕ) (book out : List ℕ) {n : ℕ} {bs : List ℕ} (bytes : Below 256 words) (below : Below 256 book) where
+module _ (words : List ℕ) (way : ℕ) (book out : List ℕ) {n : ℕ} {bs : List ℕ} (bytes : Below 256 words)
+    (below : Below 256 book) where
   pub encryptBook-length : encryptBookCall words way book out ≡ accepted n bs → length bs ≡ length out
   unfolding encryptBookCall
   encryptBook-length a = encrypted-length _ _ (cipherFromBytes bytes) _ book out below a
@@ -65,14 +73,17 @@ module _ (words : List ℕ) (way : ℕ) (book out : List ℕ) {n : ℕ} {bs : Li
   unfolding decryptBookCall
   decryptBook-length a = decrypted-length _ _ (cipherFromBytes bytes) _ book out below a
 
-pub cryptNote-length : (words : List ℕ) (way : ℕ) (counter note out : List ℕ) {n : ℕ} {bs : List ℕ} → cryptNoteCall words way counter note out ≡ accepted n bs → length bs ≡ length out
+pub cryptNote-length : (words : List ℕ) (way : ℕ) (counter note out : List ℕ) {n : ℕ} {bs : List ℕ}
+    → cryptNoteCall words way counter note out ≡ accepted n bs → length bs ≡ length out
 unfolding cryptNoteCall cryptNoteBy
 cryptNote-length words way counter note out a =
     let p = passed _ _ _ a in
-    ap length (sym (p .sameBytes)) ∙ length-ctr (encryptUnder (wordsFromBytes words)) counter note ∙ sym (note-passed (wordsAndWay words way) counter note out (p .checks) .room)
+    ap length (sym (p .sameBytes)) ∙ length-ctr (encryptUnder (wordsFromBytes words)) counter note
+    ∙ sym (note-passed (wordsAndWay words way) counter note out (p .checks) .room)
 
 -- A page has 32 bytes for each line that it counts.
-pub page-length : (book : List ℕ) (i : ℕ) (out : List ℕ) {n : ℕ} {bs : List ℕ} → pageCall book i out ≡ accepted n bs → (length bs ≡ length out) × (length bs ≡ 32 * n)
+pub page-length : (book : List ℕ) (i : ℕ) (out : List ℕ) {n : ℕ} {bs : List ℕ} → pageCall book i out ≡ accepted n bs
+    → (length bs ≡ length out) × (length bs ≡ 32 * n)
 unfolding pageCall
 page-length book i out a =
     let p = passed (pageChecks book i out) (lineCount i book) (page i book) a in

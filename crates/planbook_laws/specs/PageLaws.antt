@@ -17,14 +17,19 @@ use Rattle.clefia_laws.specs.FFunctionLaws.{allLess, below-tested}
 use Rattle.clefia_laws.specs.DigitLaws.{to-from, fromDigits-lt, below-append}
 use Rattle.clefia_laws.specs.SizedLaws.{Bytes, sized-take, sized-drop}
 use Rattle.planbook_spec.specs.Outcome.{accepted, after}
-use Rattle.planbook_spec.specs.OutcomeLaws.{AllPass, pass-head, pass-tail, pass-left, pass-right, passed, Accepted, accepted-is, Judges, judges}
+use Rattle.planbook_spec.specs.OutcomeLaws.{AllPass, pass-head, pass-tail, pass-left, pass-right, passed, Accepted}
+use Rattle.planbook_spec.specs.OutcomeLaws.{accepted-is, Judges, judges}
 use Rattle.planbook_spec.specs.Checks.{outputCheck}
-use Rattle.planbook_spec.specs.Book.{number, pieces, trial, count, recordTrial, recordEntry, recordReplicate, recordRow, recordColumn, replicates, plotHolds, recordHolds, allRecordsHold, entriesHold, sheetCount, contents, bodies, sheetEntry, sheetBody, formChecks, sheetsHold, recordsCheck, asItIs, formAndRecords}
+use Rattle.planbook_spec.specs.Book.{number, pieces, trial, count, recordTrial, recordEntry, recordReplicate, recordRow}
+use Rattle.planbook_spec.specs.Book.{recordColumn, replicates, plotHolds, recordHolds, allRecordsHold, entriesHold}
+use Rattle.planbook_spec.specs.Book.{sheetCount, contents, bodies, sheetEntry, sheetBody, formChecks, sheetsHold}
+use Rattle.planbook_spec.specs.Book.{recordsCheck, asItIs, formAndRecords}
 use Rattle.planbook_laws.specs.Undoing.{empty}
 use Rattle.planbook_laws.specs.CheckLaws.{output-size}
 use Rattle.planbook_laws.specs.BookLaws.{Formed, formed}
 use Rattle.planbook_laws.specs.SheetLaws.{body-room, SheetKept, sheet-kept}
-use Rattle.planbook_spec.specs.Page.{decimal, spaces, rightAligned, numberField, fields, heading, line, lines, page, lineCount, sheetCheck, pageChecks, pageCall}
+use Rattle.planbook_spec.specs.Page.{decimal, spaces, rightAligned, numberField, fields, heading, line, lines, page}
+use Rattle.planbook_spec.specs.Page.{lineCount, sheetCheck, pageChecks, pageCall}
 
 -- ---- lengths
 
@@ -33,7 +38,8 @@ unfolding decimal
 length-decimal zero n = omega arith
 length-decimal (suc k) n = by-test (ltb n 10) (length-decimal k (n / 10))
   where
-    by-test : (t : Bool) → length (decimal k (n / 10)) ≤ k → length (choose t [] (decimal k (n / 10)) ++ ((48 + n % 10) ∷ [])) ≤ suc k
+    by-test : (t : Bool) → length (decimal k (n / 10)) ≤ k
+        → length (choose t [] (decimal k (n / 10)) ++ ((48 + n % 10) ∷ [])) ≤ suc k
     by-test true h = omega arith
     by-test false h = omega (arith, length-append (decimal k (n / 10)) ((48 + n % 10) ∷ []))
 
@@ -61,12 +67,14 @@ length-line r = simp (length-append, length-field) (omega arith)
 pub length-lines : (n : ℕ) (bs : List ℕ) → length (lines (pieces 16 n bs)) ≡ 32 * n
 unfolding pieces lines
 length-lines zero bs = refl
-length-lines (suc n) bs = length-append (line (take 16 bs)) (lines (pieces 16 n (drop 16 bs))) ∙ omega (arith, length-line (take 16 bs), length-lines n (drop 16 bs))
+length-lines (suc n) bs = length-append (line (take 16 bs)) (lines (pieces 16 n (drop 16 bs)))
+    ∙ omega (arith, length-line (take 16 bs), length-lines n (drop 16 bs))
 
 -- So a page has 32 times as many bytes as lines.
 pub length-page : (i : ℕ) (book : List ℕ) → length (page i book) ≡ 32 * lineCount i book
 unfolding page
-length-page i book = length-append heading _ ∙ omega (arith, length-heading, length-lines (count (sheetEntry i book)) (sheetBody i book))
+length-page i book = length-append heading _
+    ∙ omega (arith, length-heading, length-lines (count (sheetEntry i book)) (sheetBody i book))
 
 -- ---- characters: every one is below 128
 
@@ -91,9 +99,15 @@ below-aligned w h = below-append (below-spaces _) h
 below-field : (w n : ℕ) → Below 128 (numberField w n)
 below-field w n = below-aligned w (below-decimal w n)
 
-below-fields : {a b c d e : List ℕ} → Below 128 a → Below 128 b → Below 128 c → Below 128 d → Below 128 e → Below 128 (fields a b c d e)
+below-fields : {a b c d e : List ℕ} → Below 128 a → Below 128 b → Below 128 c → Below 128 d → Below 128 e
+    → Below 128 (fields a b c d e)
 below-fields a b c d e =
-    below-append a (more (lit< tt) (below-append b (more (lit< tt) (below-append c (more (lit< tt) (below-append d (more (lit< tt) (below-append e (more (lit< tt) none)))))))))
+    below-append a
+    (more (lit< tt)
+    (below-append b
+    (more (lit< tt)
+    (below-append c
+    (more (lit< tt) (below-append d (more (lit< tt) (below-append e (more (lit< tt) none)))))))))
 
 below-heading : Below 128 heading
 unfolding heading rightAligned spaces allLess
@@ -102,7 +116,8 @@ below-heading = below-tested 128 heading tt
 below-lines : (rs : List (List ℕ)) → Below 128 (lines rs)
 unfolding lines line
 below-lines [] = none
-below-lines (r ∷ rs) = below-append (below-fields (below-field 10 _) (below-field 10 _) (below-field 1 _) (below-field 3 _) (below-field 3 _)) (below-lines rs)
+below-lines (r ∷ rs) = below-append (below-fields (below-field 10 _) (below-field 10 _) (below-field 1 _)
+    (below-field 3 _) (below-field 3 _)) (below-lines rs)
 
 -- So a page is ASCII.
 pub ascii-page : (i : ℕ) (book : List ℕ) → Below 128 (page i book)
@@ -132,9 +147,11 @@ unfolding decimal readOn
 read-decimal zero n h = let s : n < 1 = rw (pow-zero 10) at h in omega arith
 read-decimal (suc k) n h =
     let s : n < 10 ^ k * 10 = rw (pow-suc 10 k) at h in
-    read-last 0 (choose (ltb n 10) [] (decimal k (n / 10))) (48 + n % 10) ∙ by-test (ltb n 10) refl (read-decimal k (n / 10) (omega arith))
+    read-last 0 (choose (ltb n 10) [] (decimal k (n / 10))) (48 + n % 10)
+    ∙ by-test (ltb n 10) refl (read-decimal k (n / 10) (omega arith))
   where
-    by-test : (t : Bool) → ltb n 10 ≡ t → readOn 0 (decimal k (n / 10)) ≡ n / 10 → readOn 0 (choose t [] (decimal k (n / 10))) * 10 + (48 + n % 10 - 48) ≡ n
+    by-test : (t : Bool) → ltb n 10 ≡ t → readOn 0 (decimal k (n / 10)) ≡ n / 10
+        → readOn 0 (choose t [] (decimal k (n / 10))) * 10 + (48 + n % 10 - 48) ≡ n
     by-test true e q = let s : n < 10 = ltb-true n 10 e in omega arith
     by-test false e q = omega arith
 
@@ -148,12 +165,17 @@ fields-differ w {m} {n} h k e = sym (field-back w m h) ∙ ap (readOn 0) e ∙ f
 -- ---- a line shows its record
 
 -- Two lists of equal parts.
-equal-parts : (n : ℕ) (a a′ : List ℕ) {b b′ : List ℕ} → length a ≡ n → length a′ ≡ n → a ++ b ≡ a′ ++ b′ → (a ≡ a′) × (b ≡ b′)
-equal-parts n a a′ {b} {b′} l l′ e =
-    (sym (take-at a b n l) ∙ ap (take n) e ∙ take-at a′ b′ n l′, sym (drop-at a b n l) ∙ ap (drop n) e ∙ drop-at a′ b′ n l′)
+equal-parts : (n : ℕ) (a a′ : List ℕ) {b b′ : List ℕ} → length a ≡ n → length a′ ≡ n → a ++ b ≡ a′ ++ b′
+    → (a ≡ a′) × (b ≡ b′)
+equal-parts n a a′ {b} {b′} l l′ e = (
+  sym (take-at a b n l) ∙ ap (take n) e ∙ take-at a′ b′ n l′,
+  sym (drop-at a b n l) ∙ ap (drop n) e
+      ∙ drop-at a′ b′ n l′,
+)
 
 -- The first field of two lines, and what follows it.
-field-parts : (w m n : ℕ) {b b′ : List ℕ} → numberField w m ++ b ≡ numberField w n ++ b′ → (numberField w m ≡ numberField w n) × (b ≡ b′)
+field-parts : (w m n : ℕ) {b b′ : List ℕ} → numberField w m ++ b ≡ numberField w n ++ b′
+    → (numberField w m ≡ numberField w n) × (b ≡ b′)
 field-parts w m n = equal-parts w (numberField w m) (numberField w n) (length-field w m) (length-field w n)
 
 -- That the numbers of a record fit their fields.
@@ -199,20 +221,23 @@ part-bytes at k b h = sized-take k (16 - at - k) (sized-drop at (16 - at) b (ome
 
 module _ {r r′ : List ℕ} (b : Bytes 16 r) (b′ : Bytes 16 r′) where
   -- The bytes of one number more.
-  longer : (a k : ℕ) → a + k ≤ 16 → take a r ≡ take a r′ → number a k r ≡ number a k r′ → take (a + k) r ≡ take (a + k) r′
+  longer : (a k : ℕ) → a + k ≤ 16 → take a r ≡ take a r′ → number a k r ≡ number a k r′
+      → take (a + k) r ≡ take (a + k) r′
   unfolding number
   longer a k h t e = rw (take-add a k r, take-add a k r′, t, sym (digits b) ∙ ap (toDigits 256 k) e ∙ digits b′)
     where
       digits : {s : List ℕ} → Bytes 16 s → toDigits 256 k (fromDigits 256 (take k (drop a s))) ≡ take k (drop a s)
       digits {s} p =
           let q : Bytes k (take k (drop a s)) = part-bytes a k p h in
-          ap (λ (m : ℕ). toDigits 256 m (fromDigits 256 (take k (drop a s)))) (sym (q .size)) ∙ to-from (lit< tt) (q .below)
+          ap (λ (m : ℕ). toDigits 256 m (fromDigits 256 (take k (drop a s)))) (sym (q .size))
+          ∙ to-from (lit< tt) (q .below)
 
   same-record : SameNumbers r r′ → number 13 3 r ≡ number 13 3 r′ → r ≡ r′
   same-record s z =
       let four : take 4 r ≡ take 4 r′ = longer 0 4 (omega arith) refl (s .trial) in
       let eight : take 8 r ≡ take 8 r′ = longer 4 4 (omega arith) four (s .entry) in
-      let nine : take 9 r ≡ take 9 r′ = longer 8 1 (omega arith) eight (byte r (b .size) ∙ s .replicate ∙ sym (byte r′ (b′ .size))) in
+      let nine : take 9 r ≡ take 9 r′ = longer 8 1 (omega arith) eight
+      (byte r (b .size) ∙ s .replicate ∙ sym (byte r′ (b′ .size))) in
       let eleven : take 11 r ≡ take 11 r′ = longer 9 2 (omega arith) nine (s .row) in
       let thirteen : take 13 r ≡ take 13 r′ = longer 11 2 (omega arith) eleven (s .column) in
       let all : take 16 r ≡ take 16 r′ = longer 13 3 (omega arith) thirteen z in
@@ -227,7 +252,9 @@ plot-small : (row column : ℕ) → plotHolds row column ≡ true → (row < 10 
 unfolding plotHolds
 plot-small row column h = by-test (eqb row 0 && eqb column 0) refl h
   where
-    by-test : (t : Bool) → (eqb row 0 && eqb column 0) ≡ t → (t || (leb 1 row && leb row 999 && leb 1 column && leb column 999)) ≡ true → (row < 10 ^ 3) × (column < 10 ^ 3)
+    by-test : (t : Bool) → (eqb row 0 && eqb column 0) ≡ t
+        → (t || (leb 1 row && leb row 999 && leb 1 column && leb column 999)) ≡ true
+        → (row < 10 ^ 3) × (column < 10 ^ 3)
     by-test true e k =
         let zeros = both-true (eqb row 0) (eqb column 0) e in
         let r : row ≡ 0 = eqb-true row 0 (zeros .0) in
@@ -262,7 +289,14 @@ kept e {r} few b h =
     let plot = plot-small (recordRow r) (recordColumn r) (p .1) in
     let rep : recordReplicate r ≤ replicates e = leb-true _ _ (q .1) in
     record {
-      fits = record { trial = word 0 (omega arith); entry = word 4 (omega arith); replicate = omega arith; row = plot .0; column = plot .1 };
+      fits = record {
+        trial = word 0 (omega arith);
+        entry = word 4 (omega arith);
+        replicate = omega arith;
+        row =
+            plot .0;
+        column = plot .1;
+      };
       zeros = eqb-true _ _ (f .1);
     }
   where
@@ -270,8 +304,10 @@ kept e {r} few b h =
     word at k = omega (arith, number-small at 4 b k)
 
 -- So two sheets of equal lines have equal bodies.
-lines-say : (n : ℕ) (e e′ : List ℕ) {b b′ : List ℕ} → replicates e ≤ 8 → replicates e′ ≤ 8 → Bytes (16 * n) b → Bytes (16 * n) b′
-    → allRecordsHold e (pieces 16 n b) ≡ true → allRecordsHold e′ (pieces 16 n b′) ≡ true → lines (pieces 16 n b) ≡ lines (pieces 16 n b′) → b ≡ b′
+lines-say : (n : ℕ) (e e′ : List ℕ) {b b′ : List ℕ} → replicates e ≤ 8 → replicates e′ ≤ 8 → Bytes (16 * n) b
+    → Bytes (16 * n) b′
+    → allRecordsHold e (pieces 16 n b) ≡ true → allRecordsHold e′ (pieces 16 n b′) ≡ true
+    → lines (pieces 16 n b) ≡ lines (pieces 16 n b′) → b ≡ b′
 unfolding pieces allRecordsHold lines
 lines-say zero e e′ {b} {b′} few few′ p p′ h h′ q = sym (empty b p) ∙ empty b′ p′
 lines-say (suc n) e e′ {b} {b′} few few′ p p′ h h′ q =
@@ -281,15 +317,20 @@ lines-say (suc n) e e′ {b} {b′} few few′ p p′ h h′ q =
     let r′ : Bytes 16 (take 16 b′) = sized-take 16 (16 * n) p′ (omega arith) in
     let k : Kept (take 16 b) = kept e few r (t .0) in
     let k′ : Kept (take 16 b′) = kept e′ few′ r′ (t′ .0) in
-    let s = equal-parts 32 (line (take 16 b)) (line (take 16 b′)) (length-line (take 16 b)) (length-line (take 16 b′)) q in
-    let first : take 16 b ≡ take 16 b′ = same-record r r′ (same-numbers (k .fits) (k′ .fits) (s .0)) (k .zeros ∙ sym (k′ .zeros)) in
+    let s = equal-parts 32 (line (take 16 b)) (line (take 16 b′)) (length-line (take 16 b))
+    (length-line (take 16 b′)) q in
+    let first : take 16 b ≡ take 16 b′ = same-record r r′ (same-numbers (k .fits) (k′ .fits) (s .0))
+    (k .zeros ∙ sym (k′ .zeros)) in
     let rest : drop 16 b ≡ drop 16 b′ =
-    lines-say n e e′ few few′ (sized-drop 16 (16 * n) p (omega arith)) (sized-drop 16 (16 * n) p′ (omega arith)) (t .1) (t′ .1) (s .1) in
+    lines-say n e e′ few few′ (sized-drop 16 (16 * n) p (omega arith)) (sized-drop 16 (16 * n) p′ (omega arith)) (t .1)
+    (t′ .1) (s .1) in
     sym (take-append-drop 16 b) ∙ ap₂ _++_ first rest ∙ take-append-drop 16 b′
 
 -- Whatever the number of their records.
-bodies-say : (n n′ : ℕ) (e e′ : List ℕ) {b b′ : List ℕ} → replicates e ≤ 8 → replicates e′ ≤ 8 → Bytes (16 * n) b → Bytes (16 * n′) b′
-    → allRecordsHold e (pieces 16 n b) ≡ true → allRecordsHold e′ (pieces 16 n′ b′) ≡ true → lines (pieces 16 n b) ≡ lines (pieces 16 n′ b′) → b ≡ b′
+bodies-say : (n n′ : ℕ) (e e′ : List ℕ) {b b′ : List ℕ} → replicates e ≤ 8 → replicates e′ ≤ 8 → Bytes (16 * n) b
+    → Bytes (16 * n′) b′
+    → allRecordsHold e (pieces 16 n b) ≡ true → allRecordsHold e′ (pieces 16 n′ b′) ≡ true
+    → lines (pieces 16 n b) ≡ lines (pieces 16 n′ b′) → b ≡ b′
 bodies-say n n′ e e′ {b} {b′} few few′ p p′ h h′ q =
     let k : n′ ≡ n = omega (arith, sym (length-lines n b) ∙ ap length q ∙ length-lines n′ b′) in
     lines-say n e e′ few few′ p (rw k at p′) h (rw k at h′) (rw k at q)
@@ -297,12 +338,14 @@ bodies-say n n′ e e′ {b} {b′} few few′ p p′ h h′ q =
 module _ {book book′ : List ℕ} {i i′ : ℕ} (s : SheetKept i book) (s′ : SheetKept i′ book′) where
   page-says : page i book ≡ page i′ book′ → sheetBody i book ≡ sheetBody i′ book′
   unfolding page
-  page-says e = bodies-say _ _ (sheetEntry i book) (sheetEntry i′ book′) (s .few) (s′ .few) (s .bytes) (s′ .bytes) (s .holds) (s′ .holds) (equal-parts 32 heading heading length-heading length-heading e .1)
+  page-says e = bodies-say _ _ (sheetEntry i book) (sheetEntry i′ book′) (s .few) (s′ .few) (s .bytes) (s′ .bytes)
+      (s .holds) (s′ .holds) (equal-parts 32 heading heading length-heading length-heading e .1)
 
   body-says : sheetBody i book ≡ sheetBody i′ book′ → page i book ≡ page i′ book′
   unfolding page
   body-says e =
-      let k : count (sheetEntry i book) ≡ count (sheetEntry i′ book′) = omega (arith, sym (s .bytes .size) ∙ ap length e ∙ s′ .bytes .size) in
+      let k : count (sheetEntry i book) ≡ count (sheetEntry i′ book′) =
+      omega (arith, sym (s .bytes .size) ∙ ap length e ∙ s′ .bytes .size) in
       rw (e, k)
 
 -- ---- the call
@@ -320,7 +363,8 @@ unfolding pageChecks formChecks recordsCheck sheetCheck
 page-passed book i out p =
     let b : AllPass (formAndRecords 1 asItIs book) = pass-left (formAndRecords 1 asItIs book) _ p in
     let f : AllPass (formChecks 1 book) = pass-left (formChecks 1 book) _ b in
-    let q : AllPass (sheetCheck i book ∷ outputCheck (32 * lineCount i book) out ∷ []) = pass-right (formAndRecords 1 asItIs book) _ p in
+    let q : AllPass (sheetCheck i book ∷ outputCheck (32 * lineCount i book) out ∷ []) =
+    pass-right (formAndRecords 1 asItIs book) _ p in
     record {
       formed = formed 1 book f;
       entries = pass-head (pass-tail (pass-tail (pass-tail (pass-tail f))));
@@ -331,13 +375,20 @@ page-passed book i out p =
 
 -- So the count of its lines is below 2 ^ 32, by far.
 pub line-count : {book : List ℕ} {i : ℕ} {out : List ℕ} → PagePassed book i out → lineCount i book < 2 ^ 32
-line-count {book} {i} k = omega (arith, k .formed .short, k .formed .size, body-room i (sheetCount book) (drop 4 book) (k .there))
+line-count {book} {i} k = omega (
+  arith,
+  k .formed .short,
+  k .formed .size,
+  body-room i (sheetCount book) (drop 4 book) (k .there),
+)
 
-pub demand1-page : (book : List ℕ) (i : ℕ) (out : List ℕ) → Judges (pageChecks book i out) (lineCount i book) (page i book) (pageCall book i out)
+pub demand1-page : (book : List ℕ) (i : ℕ) (out : List ℕ)
+    → Judges (pageChecks book i out) (lineCount i book) (page i book) (pageCall book i out)
 unfolding pageCall
 demand1-page book i out = judges _ _ _
 
-accepted-sheet : (book : List ℕ) (i : ℕ) (out : List ℕ) {n : ℕ} {bs : List ℕ} → Below 256 book → pageCall book i out ≡ accepted n bs → (page i book ≡ bs) × SheetKept i book
+accepted-sheet : (book : List ℕ) (i : ℕ) (out : List ℕ) {n : ℕ} {bs : List ℕ} → Below 256 book
+    → pageCall book i out ≡ accepted n bs → (page i book ≡ bs) × SheetKept i book
 unfolding pageCall
 accepted-sheet book i out below a =
     let p = passed (pageChecks book i out) (lineCount i book) (page i book) a in
@@ -346,7 +397,8 @@ accepted-sheet book i out below a =
 
 -- The page shows the whole sheet: the pages of two accepted books are equal exactly where the
 -- bodies of the two sheets are. Their indices may differ too.
-pub pages-alike : (book book′ : List ℕ) (i i′ : ℕ) (out out′ : List ℕ) → Below 256 book → Below 256 book′ → Accepted (pageCall book i out) → Accepted (pageCall book′ i′ out′)
+pub pages-alike : (book book′ : List ℕ) (i i′ : ℕ) (out out′ : List ℕ) → Below 256 book → Below 256 book′
+    → Accepted (pageCall book i out) → Accepted (pageCall book′ i′ out′)
     → (after out (pageCall book i out) ≡ after out′ (pageCall book′ i′ out′)) ↔ (sheetBody i book ≡ sheetBody i′ book′)
 pages-alike book book′ i i′ out out′ below below′ a a′ =
     let s = accepted-sheet book i out below (accepted-is a out) in

@@ -15,15 +15,20 @@ use Rattle.clefia_spec.specs.Words.{choose, byKeyLength, Below}
 use Rattle.clefia_spec.specs.Block.{encryptUnder, decryptUnder, encrypt}
 use Rattle.planbook_spec.specs.Outcome.{Outcome, refused, accepted, answer, after, Answers, Check, check, judged}
 use Rattle.planbook_spec.specs.OutcomeLaws.{AllPass, none, more, answers-equal, Accepted, accepting}
-use Rattle.planbook_spec.specs.Checks.{keyCheck, wayCheck, blockCheck, outputCheck, wordsCheck, wordsFromBytes, wordsAndWay, constantCount, expandedCount, constantsCall, expandKeyCall, blockChecks, encryptBlockCall, decryptBlockCall}
+use Rattle.planbook_spec.specs.Checks.{keyCheck, wayCheck, blockCheck, outputCheck, wordsCheck, wordsFromBytes}
+use Rattle.planbook_spec.specs.Checks.{wordsAndWay, constantCount, expandedCount, constantsCall, expandKeyCall}
+use Rattle.planbook_spec.specs.Checks.{blockChecks, encryptBlockCall, decryptBlockCall}
 use Rattle.planbook_laws.specs.CheckLaws.{Way}
 use Rattle.planbook_laws.specs.UnderKey.{Expanded, expanded, same-words, expanded-bytes, words-expanded}
-use Rattle.planbook_spec.specs.Book.{sheetBody, formChecks, recordsCheck, asItIs, decryptBody, bookChecks, encryptBookBy, decryptBookBy, encryptBookCall, decryptBookCall}
+use Rattle.planbook_spec.specs.Book.{sheetBody, formChecks, recordsCheck, asItIs, decryptBody, bookChecks}
+use Rattle.planbook_spec.specs.Book.{encryptBookBy, decryptBookBy, encryptBookCall, decryptBookCall}
 use Rattle.planbook_spec.specs.Note.{noteCheck, noteChecks, cryptNoteBy, cryptNoteCall}
 use Rattle.planbook_spec.specs.Page.{sheetCheck, pageChecks, pageCall}
 use Rattle.planbook_laws.specs.BookLaws.{formed-count}
 use Rattle.planbook_laws.specs.BookCipher.{book-formed}
-use Rattle.planbook_laws.specs.Demands.{demand2-decrypts-under, demand2-encrypts-under, demand2-block-decrypts-under, demand2-block-encrypts-under, EncryptedAlike, demand3-under}
+use Rattle.planbook_laws.specs.Demands.{demand2-decrypts-under, demand2-encrypts-under}
+use Rattle.planbook_laws.specs.Demands.{demand2-block-decrypts-under, demand2-block-encrypts-under}
+use Rattle.planbook_laws.specs.Demands.{EncryptedAlike, demand3-under}
 use Rattle.planbook_laws.specs.NoteLaws.{note-passed, note-comes-back-under, notes-alike-under}
 use Rattle.planbook_laws.specs.PageLaws.{page-passed, line-count, pages-alike}
 
@@ -52,22 +57,34 @@ pub record Acceptance (o : Outcome) (r : ℕ) (exit : List ℕ) : Type 0 where
   pub outcome : o ≡ accepted r exit
   pub below : r < 2 ^ 32
 
-pub received : {o : Outcome} → Readable o → {out : List ℕ} {r : ℕ} {exit : List ℕ} → Answers o out r exit → Refusal o out r exit ⊎ Acceptance o r exit
+pub received : {o : Outcome} → Readable o → {out : List ℕ} {r : ℕ} {exit : List ℕ} → Answers o out r exit
+    → Refusal o out r exit ⊎ Acceptance o r exit
 unfolding answer after
 received (refusal {c = c} h k) {out} {r} a =
     let e : r ≡ c * 2 ^ 32 = a .number in
     let q : c ≡ r / 2 ^ 32 = omega arith in
-    inl (record { outcome = ap refused q; least = omega arith; most = omega arith; number = omega arith; untouched = a .output })
-received (acceptance {n = n} h) {r = r} a = let e : r ≡ n = a .number in inr (record { outcome = cc (a .output); below = omega arith })
+    inl (record {
+      outcome = ap refused q;
+      least = omega arith;
+      most = omega arith;
+      number = omega arith;
+      untouched =
+          a .output;
+    })
+received (acceptance {n = n} h) {r = r} a = let e : r ≡ n = a .number in
+    inr (record { outcome = cc (a .output); below = omega arith })
 
 -- A number below 2 ^ 32 is acceptance, and nothing else is.
-pub accepts : {o : Outcome} → Readable o → {out : List ℕ} {r : ℕ} {exit : List ℕ} → Answers o out r exit → r < 2 ^ 32 → o ≡ accepted r exit
+pub accepts : {o : Outcome} → Readable o → {out : List ℕ} {r : ℕ} {exit : List ℕ} → Answers o out r exit → r < 2 ^ 32
+    → o ≡ accepted r exit
 accepts p a h = ⊎-elim (λ x. let z : ⊥ = omega (arith, x .least) in absurd z) (λ x. x .outcome) (received p a)
 
 -- The number and the bytes of an outcome that is known to be accepted.
-number-and-output : {o : Outcome} {n : ℕ} {bs out : List ℕ} {r : ℕ} {exit : List ℕ} → o ≡ accepted n bs → Answers o out r exit → (r ≡ n) × (exit ≡ bs)
+number-and-output : {o : Outcome} {n : ℕ} {bs out : List ℕ} {r : ℕ} {exit : List ℕ} → o ≡ accepted n bs
+    → Answers o out r exit → (r ≡ n) × (exit ≡ bs)
 unfolding answer after
-number-and-output {out = out} e a = answers-equal a (record { number = sym (ap answer e); output = sym (ap (after out) e) })
+number-and-output {out = out} e a = answers-equal a
+    (record { number = sym (ap answer e); output = sym (ap (after out) e) })
 
 -- ---- every call's outcome can be read
 
@@ -77,15 +94,19 @@ unfoldable numbered : List Check → Bool
 numbered [] = true
 numbered (check c b ∷ cs) = leb 1 c && leb c lastCheck && numbered cs
 
-readable : (cs : List Check) (n : ℕ) (bs : List ℕ) → numbered cs ≡ true → (AllPass cs → n < 2 ^ 32) → Readable (judged cs (accepted n bs))
+readable : (cs : List Check) (n : ℕ) (bs : List ℕ) → numbered cs ≡ true → (AllPass cs → n < 2 ^ 32)
+    → Readable (judged cs (accepted n bs))
 unfolding judged numbered
 readable [] n bs e f = acceptance (f none)
-readable (check c true ∷ cs) n bs e f = readable cs n bs (both-true (leb 1 c && leb c lastCheck) _ e .1) (λ p. f (more p))
+readable (check c true ∷ cs) n bs e f = readable cs n bs (both-true (leb 1 c && leb c lastCheck) _ e .1)
+    (λ p. f (more p))
 readable (check c false ∷ cs) n bs e f =
-    let h : (leb 1 c ≡ true) × (leb c lastCheck ≡ true) = both-true (leb 1 c) (leb c lastCheck) (both-true (leb 1 c && leb c lastCheck) (numbered cs) e .0) in
+    let h : (leb 1 c ≡ true) × (leb c lastCheck ≡ true) =
+    both-true (leb 1 c) (leb c lastCheck) (both-true (leb 1 c && leb c lastCheck) (numbered cs) e .0) in
     refusal (leb-true 1 c (h .0)) (leb-true c lastCheck (h .1))
 
-numbered-book : (words : List ℕ) (way kind : ℕ) (f : List ℕ → List ℕ → List ℕ) (book out : List ℕ) → numbered (bookChecks (wordsAndWay words way) kind f book out) ≡ true
+numbered-book : (words : List ℕ) (way kind : ℕ) (f : List ℕ → List ℕ → List ℕ) (book out : List ℕ)
+    → numbered (bookChecks (wordsAndWay words way) kind f book out) ≡ true
 unfolding bookChecks formChecks recordsCheck wordsCheck wayCheck outputCheck numbered
 numbered-book words way kind f book out = refl
 
@@ -115,15 +136,19 @@ module _ (words : List ℕ) (way : ℕ) where
 
   pub readable-encryptBook : (book out : List ℕ) → Readable (encryptBookCall words way book out)
   unfolding encryptBookCall encryptBookBy
-  readable-encryptBook book out = readable (bookChecks (wordsAndWay words way) 1 asItIs book out) _ _ (numbered-book words way _ _ book out) (λ p. formed-count (book-formed _ _ _ book out p))
+  readable-encryptBook book out = readable (bookChecks (wordsAndWay words way) 1 asItIs book out) _ _
+      (numbered-book words way _ _ book out) (λ p. formed-count (book-formed _ _ _ book out p))
 
   pub readable-decryptBook : (book out : List ℕ) → Readable (decryptBookCall words way book out)
   unfolding decryptBookCall decryptBookBy
-  readable-decryptBook book out = readable (bookChecks (wordsAndWay words way) 2 (decryptBody (decryptUnder (wordsFromBytes words))) book out) _ _ (numbered-book words way _ _ book out) (λ p. formed-count (book-formed _ _ _ book out p))
+  readable-decryptBook book out = readable
+      (bookChecks (wordsAndWay words way) 2 (decryptBody (decryptUnder (wordsFromBytes words))) book out) _ _
+      (numbered-book words way _ _ book out) (λ p. formed-count (book-formed _ _ _ book out p))
 
   pub readable-cryptNote : (counter note out : List ℕ) → Readable (cryptNoteCall words way counter note out)
   unfolding cryptNoteCall cryptNoteBy noteChecks wordsCheck wayCheck blockCheck outputCheck noteCheck numbered
-  readable-cryptNote counter note out = readable _ _ _ refl (λ p. let s : length note ≤ 16384 = note-passed (wordsAndWay words way) counter note out p .short in omega arith)
+  readable-cryptNote counter note out = readable _ _ _ refl
+      (λ p. let s : length note ≤ 16384 = note-passed (wordsAndWay words way) counter note out p .short in omega arith)
 
 pub readable-page : (book : List ℕ) (i : ℕ) (out : List ℕ) → Readable (pageCall book i out)
 unfolding pageCall pageChecks formChecks recordsCheck sheetCheck outputCheck numbered
@@ -132,31 +157,44 @@ readable-page book i out = readable (pageChecks book i out) _ _ refl (λ p. line
 -- ---- demand 2: under the same words, where the first number is below 2 ^ 32, the other call gives
 -- the number and the bytes back
 
-module _ (words : List ℕ) (bytes : Below 256 words) (way way′ : ℕ) (permitted : Way way′) (src out out′ : List ℕ) (below : Below 256 src) {r r′ : ℕ} {exit exit′ : List ℕ} (small : r < 2 ^ 32) where
-  pub demand2-decrypts-under-received : Answers (encryptBookCall words way src out) out r exit → length out′ ≡ length src
+module _ (words : List ℕ) (bytes : Below 256 words) (way way′ : ℕ) (permitted : Way way′) (src out out′ : List ℕ)
+    (below : Below 256 src) {r r′ : ℕ} {exit exit′ : List ℕ} (small : r < 2 ^ 32) where
+  pub demand2-decrypts-under-received : Answers (encryptBookCall words way src out) out r exit
+      → length out′ ≡ length src
       → Answers (decryptBookCall words way′ exit out′) out′ r′ exit′ → (r′ ≡ r) × (exit′ ≡ src)
-  demand2-decrypts-under-received a e = number-and-output (demand2-decrypts-under words bytes way way′ permitted src out out′ below (accepts (readable-encryptBook words way src out) a small) e)
+  demand2-decrypts-under-received a e = number-and-output
+      (demand2-decrypts-under words bytes way way′ permitted src out out′ below
+      (accepts (readable-encryptBook words way src out) a small) e)
 
-  pub demand2-encrypts-under-received : Answers (decryptBookCall words way src out) out r exit → length out′ ≡ length src
+  pub demand2-encrypts-under-received : Answers (decryptBookCall words way src out) out r exit
+      → length out′ ≡ length src
       → Answers (encryptBookCall words way′ exit out′) out′ r′ exit′ → (r′ ≡ r) × (exit′ ≡ src)
-  demand2-encrypts-under-received a e = number-and-output (demand2-encrypts-under words bytes way way′ permitted src out out′ below (accepts (readable-decryptBook words way src out) a small) e)
+  demand2-encrypts-under-received a e = number-and-output
+      (demand2-encrypts-under words bytes way way′ permitted src out out′ below
+      (accepts (readable-decryptBook words way src out) a small) e)
 
   pub demand2-block-decrypts-under-received : Answers (encryptBlockCall words way src out) out r exit → length out′ ≡ 16
       → Answers (decryptBlockCall words way′ exit out′) out′ r′ exit′ → (r′ ≡ r) × (exit′ ≡ src)
-  demand2-block-decrypts-under-received a e = number-and-output (demand2-block-decrypts-under words bytes way way′ permitted src out out′ below e (accepts (readable-encryptBlock words way src out) a small))
+  demand2-block-decrypts-under-received a e =
+      number-and-output (demand2-block-decrypts-under words bytes way way′ permitted src out out′ below e
+      (accepts (readable-encryptBlock words way src out) a small))
 
   pub demand2-block-encrypts-under-received : Answers (decryptBlockCall words way src out) out r exit → length out′ ≡ 16
       → Answers (encryptBlockCall words way′ exit out′) out′ r′ exit′ → (r′ ≡ r) × (exit′ ≡ src)
-  demand2-block-encrypts-under-received a e = number-and-output (demand2-block-encrypts-under words bytes way way′ permitted src out out′ below e (accepts (readable-decryptBlock words way src out) a small))
+  demand2-block-encrypts-under-received a e =
+      number-and-output (demand2-block-encrypts-under words bytes way way′ permitted src out out′ below e
+      (accepts (readable-decryptBlock words way src out) a small))
 
 -- ---- demand 3: the two outputs at exit, where both numbers are below 2 ^ 32
 
 accepted-outcome : {o : Outcome} {n : ℕ} {bs : List ℕ} → o ≡ accepted n bs → Accepted o
 accepted-outcome e = subst Accepted (sym e) (accepting _ _)
 
-pub demand3-under-received : (words : List ℕ) → Below 256 words → (way way′ : ℕ) (a b out out′ : List ℕ) → Below 256 a → Below 256 b → {r r′ : ℕ} {x y : List ℕ}
+pub demand3-under-received : (words : List ℕ) → Below 256 words → (way way′ : ℕ) (a b out out′ : List ℕ) → Below 256 a
+    → Below 256 b → {r r′ : ℕ} {x y : List ℕ}
     → Answers (encryptBookCall words way a out) out r x → r < 2 ^ 32
-    → Answers (encryptBookCall words way′ b out′) out′ r′ y → r′ < 2 ^ 32 → EncryptedAlike (encryptUnder (wordsFromBytes words)) a b x y
+    → Answers (encryptBookCall words way′ b out′) out′ r′ y → r′ < 2 ^ 32
+    → EncryptedAlike (encryptUnder (wordsFromBytes words)) a b x y
 demand3-under-received words bytes way way′ a b out out′ ra rb pa ha pb hb =
     rw (pa .output, pb .output)
     (demand3-under words bytes way way′ a b out out′ ra rb
@@ -167,11 +205,15 @@ demand3-under-received words bytes way way′ a b out out′ ra rb pa ha pb hb =
 -- counter block are equal exactly where their texts are
 
 module _ (words : List ℕ) (way way′ : ℕ) (counter : List ℕ) {r r′ : ℕ} {x y : List ℕ} where
-  pub note-comes-back-under-received : Way way′ → (note out out′ : List ℕ) → Answers (cryptNoteCall words way counter note out) out r x → r < 2 ^ 32 → length out′ ≡ length note
+  pub note-comes-back-under-received : Way way′ → (note out out′ : List ℕ)
+      → Answers (cryptNoteCall words way counter note out) out r x → r < 2 ^ 32 → length out′ ≡ length note
       → Answers (cryptNoteCall words way′ counter x out′) out′ r′ y → (r′ ≡ r) × (y ≡ note)
-  note-comes-back-under-received permitted note out out′ a h e = number-and-output (note-comes-back-under words way way′ counter permitted note out out′ (accepts (readable-cryptNote words way counter note out) a h) e)
+  note-comes-back-under-received permitted note out out′ a h e =
+      number-and-output (note-comes-back-under words way way′ counter permitted note out out′
+      (accepts (readable-cryptNote words way counter note out) a h) e)
 
-  pub notes-alike-under-received : (a b out out′ : List ℕ) → Answers (cryptNoteCall words way counter a out) out r x → r < 2 ^ 32
+  pub notes-alike-under-received : (a b out out′ : List ℕ) → Answers (cryptNoteCall words way counter a out) out r x
+      → r < 2 ^ 32
       → Answers (cryptNoteCall words way′ counter b out′) out′ r′ y → r′ < 2 ^ 32 → (x ≡ y) ↔ (a ≡ b)
   notes-alike-under-received a b out out′ pa ha pb hb =
       rw (pa .output, pb .output)
@@ -181,57 +223,74 @@ module _ (words : List ℕ) (way way′ : ℕ) (counter : List ℕ) {r r′ : �
 
 -- ---- under one key: the words that the call for it gave, where its number was below 2 ^ 32
 
-pub expanded-received : (key : List ℕ) (way : ℕ) (out : List ℕ) {r : ℕ} {words : List ℕ} → Answers (expandKeyCall key way out) out r words → r < 2 ^ 32 → Expanded key words
+pub expanded-received : (key : List ℕ) (way : ℕ) (out : List ℕ) {r : ℕ} {words : List ℕ}
+    → Answers (expandKeyCall key way out) out r words → r < 2 ^ 32 → Expanded key words
 expanded-received key way out a small = expanded way out (accepts (readable-expandKey key way out) a small)
 
 -- What a call answers under them, it answers under those that were expanded once more.
-module _ {key words words′ : List ℕ} (lent : Expanded key words) (lent′ : Expanded key words′) (o : List ℕ → Outcome) {out : List ℕ} {r : ℕ} {exit : List ℕ} where
+module _ {key words words′ : List ℕ} (lent : Expanded key words) (lent′ : Expanded key words′) (o : List ℕ → Outcome)
+    {out : List ℕ} {r : ℕ} {exit : List ℕ} where
   as-first : Answers (o words′) out r exit → Answers (o words) out r exit
   as-first a = rw (same-words lent lent′) a
 
-module _ (key : List ℕ) {words words′ : List ℕ} (lent : Expanded key words) (lent′ : Expanded key words′) (way way′ : ℕ) (permitted : Way way′) (src out out′ : List ℕ) (below : Below 256 src) {r r′ : ℕ} {exit exit′ : List ℕ} (small : r < 2 ^ 32) where
+module _ (key : List ℕ) {words words′ : List ℕ} (lent : Expanded key words) (lent′ : Expanded key words′) (way way′ : ℕ)
+    (permitted : Way way′) (src out out′ : List ℕ) (below : Below 256 src) {r r′ : ℕ} {exit exit′ : List ℕ}
+    (small : r < 2 ^ 32) where
   pub demand2-decrypts-received : Answers (encryptBookCall words way src out) out r exit → length out′ ≡ length src
       → Answers (decryptBookCall words′ way′ exit out′) out′ r′ exit′ → (r′ ≡ r) × (exit′ ≡ src)
   demand2-decrypts-received a e b =
-      demand2-decrypts-under-received words (expanded-bytes lent) way way′ permitted src out out′ below small a e (as-first lent lent′ (λ (w : List ℕ). decryptBookCall w way′ exit out′) b)
+      demand2-decrypts-under-received words (expanded-bytes lent) way way′ permitted src out out′ below small a e
+      (as-first lent lent′ (λ (w : List ℕ). decryptBookCall w way′ exit out′) b)
 
   pub demand2-encrypts-received : Answers (decryptBookCall words way src out) out r exit → length out′ ≡ length src
       → Answers (encryptBookCall words′ way′ exit out′) out′ r′ exit′ → (r′ ≡ r) × (exit′ ≡ src)
   demand2-encrypts-received a e b =
-      demand2-encrypts-under-received words (expanded-bytes lent) way way′ permitted src out out′ below small a e (as-first lent lent′ (λ (w : List ℕ). encryptBookCall w way′ exit out′) b)
+      demand2-encrypts-under-received words (expanded-bytes lent) way way′ permitted src out out′ below small a e
+      (as-first lent lent′ (λ (w : List ℕ). encryptBookCall w way′ exit out′) b)
 
   pub demand2-block-decrypts-received : Answers (encryptBlockCall words way src out) out r exit → length out′ ≡ 16
       → Answers (decryptBlockCall words′ way′ exit out′) out′ r′ exit′ → (r′ ≡ r) × (exit′ ≡ src)
   demand2-block-decrypts-received a e b =
-      demand2-block-decrypts-under-received words (expanded-bytes lent) way way′ permitted src out out′ below small a e (as-first lent lent′ (λ (w : List ℕ). decryptBlockCall w way′ exit out′) b)
+      demand2-block-decrypts-under-received words (expanded-bytes lent) way way′ permitted src out out′ below small a e
+      (as-first lent lent′ (λ (w : List ℕ). decryptBlockCall w way′ exit out′) b)
 
   pub demand2-block-encrypts-received : Answers (decryptBlockCall words way src out) out r exit → length out′ ≡ 16
       → Answers (encryptBlockCall words′ way′ exit out′) out′ r′ exit′ → (r′ ≡ r) × (exit′ ≡ src)
   demand2-block-encrypts-received a e b =
-      demand2-block-encrypts-under-received words (expanded-bytes lent) way way′ permitted src out out′ below small a e (as-first lent lent′ (λ (w : List ℕ). encryptBlockCall w way′ exit out′) b)
+      demand2-block-encrypts-under-received words (expanded-bytes lent) way way′ permitted src out out′ below small a e
+      (as-first lent lent′ (λ (w : List ℕ). encryptBlockCall w way′ exit out′) b)
 
-pub demand3-received : (key : List ℕ) → Below 256 key → {words words′ : List ℕ} → Expanded key words → Expanded key words′ → (way way′ : ℕ) (a b out out′ : List ℕ) → Below 256 a → Below 256 b → {r r′ : ℕ} {x y : List ℕ}
+pub demand3-received : (key : List ℕ) → Below 256 key → {words words′ : List ℕ} → Expanded key words
+    → Expanded key words′ → (way way′ : ℕ) (a b out out′ : List ℕ) → Below 256 a → Below 256 b
+    → {r r′ : ℕ} {x y : List ℕ}
     → Answers (encryptBookCall words way a out) out r x → r < 2 ^ 32
     → Answers (encryptBookCall words′ way′ b out′) out′ r′ y → r′ < 2 ^ 32 → EncryptedAlike (encrypt key) a b x y
 unfolding encrypt
 demand3-received key bytes {words} lent lent′ way way′ a b out out′ ra rb pa ha pb hb =
     rw (words-expanded bytes lent) at
-    (demand3-under-received words (expanded-bytes lent) way way′ a b out out′ ra rb pa ha (as-first lent lent′ (λ (w : List ℕ). encryptBookCall w way′ b out′) pb) hb)
+    (demand3-under-received words (expanded-bytes lent) way way′ a b out out′ ra rb pa ha
+    (as-first lent lent′ (λ (w : List ℕ). encryptBookCall w way′ b out′) pb) hb)
 
-module _ (key : List ℕ) {words words′ : List ℕ} (lent : Expanded key words) (lent′ : Expanded key words′) (way way′ : ℕ) (counter : List ℕ) {r r′ : ℕ} {x y : List ℕ} where
-  pub note-comes-back-received : Way way′ → (note out out′ : List ℕ) → Answers (cryptNoteCall words way counter note out) out r x → r < 2 ^ 32 → length out′ ≡ length note
+module _ (key : List ℕ) {words words′ : List ℕ} (lent : Expanded key words) (lent′ : Expanded key words′) (way way′ : ℕ)
+    (counter : List ℕ) {r r′ : ℕ} {x y : List ℕ} where
+  pub note-comes-back-received : Way way′ → (note out out′ : List ℕ)
+      → Answers (cryptNoteCall words way counter note out) out r x → r < 2 ^ 32 → length out′ ≡ length note
       → Answers (cryptNoteCall words′ way′ counter x out′) out′ r′ y → (r′ ≡ r) × (y ≡ note)
   note-comes-back-received permitted note out out′ a h e b =
-      note-comes-back-under-received words way way′ counter permitted note out out′ a h e (as-first lent lent′ (λ (w : List ℕ). cryptNoteCall w way′ counter x out′) b)
+      note-comes-back-under-received words way way′ counter permitted note out out′ a h e
+      (as-first lent lent′ (λ (w : List ℕ). cryptNoteCall w way′ counter x out′) b)
 
-  pub notes-alike-received : (a b out out′ : List ℕ) → Answers (cryptNoteCall words way counter a out) out r x → r < 2 ^ 32
+  pub notes-alike-received : (a b out out′ : List ℕ) → Answers (cryptNoteCall words way counter a out) out r x
+      → r < 2 ^ 32
       → Answers (cryptNoteCall words′ way′ counter b out′) out′ r′ y → r′ < 2 ^ 32 → (x ≡ y) ↔ (a ≡ b)
   notes-alike-received a b out out′ pa ha pb hb =
-      notes-alike-under-received words way way′ counter a b out out′ pa ha (as-first lent lent′ (λ (w : List ℕ). cryptNoteCall w way′ counter b out′) pb) hb
+      notes-alike-under-received words way way′ counter a b out out′ pa ha
+      (as-first lent lent′ (λ (w : List ℕ). cryptNoteCall w way′ counter b out′) pb) hb
 
 -- ---- pages: those of two sheets are equal exactly where their bodies are
 
-pub pages-alike-received : (book book′ : List ℕ) (i i′ : ℕ) (out out′ : List ℕ) → Below 256 book → Below 256 book′ → {r r′ : ℕ} {x y : List ℕ}
+pub pages-alike-received : (book book′ : List ℕ) (i i′ : ℕ) (out out′ : List ℕ) → Below 256 book → Below 256 book′
+    → {r r′ : ℕ} {x y : List ℕ}
     → Answers (pageCall book i out) out r x → r < 2 ^ 32
     → Answers (pageCall book′ i′ out′) out′ r′ y → r′ < 2 ^ 32 → (x ≡ y) ↔ (sheetBody i book ≡ sheetBody i′ book′)
 pages-alike-received book book′ i i′ out out′ below below′ pa ha pb hb =

@@ -15,7 +15,8 @@ use Rattle.clefia_laws.specs.DigitLaws.{length-digitsOf, numbers-digits, below-
 use Rattle.clefia_laws.specs.KeyLaws.{words-expandKey}
 use Rattle.planbook_spec.specs.Outcome.{Outcome, accepted, Check, judged}
 use Rattle.planbook_spec.specs.OutcomeLaws.{judged-append, judged-pass, passed}
-use Rattle.planbook_spec.specs.Checks.{wayCheck, wordsCheck, wordsFromBytes, wordsAndWay, expandKeyCall, blockChecks, encryptBlockCall, decryptBlockCall}
+use Rattle.planbook_spec.specs.Checks.{wayCheck, wordsCheck, wordsFromBytes, wordsAndWay, expandKeyCall, blockChecks}
+use Rattle.planbook_spec.specs.Checks.{encryptBlockCall, decryptBlockCall}
 use Rattle.planbook_laws.specs.CheckLaws.{key-permitted, WordsLength, forty, fortyEight, fiftySix, words-passes}
 use Rattle.planbook_spec.specs.Book.{bookChecks, encryptBookBy, decryptBookBy, encryptBookCall, decryptBookCall}
 use Rattle.planbook_spec.specs.Note.{noteChecks, cryptNoteBy, cryptNoteCall}
@@ -45,7 +46,8 @@ module _ {key words : List ℕ} (bytes : Below 256 key) (e : Expanded key words)
   row = words-expandKey (expanded-key e) bytes
 
   byte-count : length words ≡ byKeyLength (length key) 40 48 56 * 4
-  byte-count = ap length (sym (expanded-is e)) ∙ length-digitsOf 256 4 (expandKey key) ∙ ap (λ (n : ℕ). n * 4) (row .size)
+  byte-count = ap length (sym (expanded-is e)) ∙ length-digitsOf 256 4 (expandKey key)
+      ∙ ap (λ (n : ℕ). n * 4) (row .size)
 
   pub expanded-permitted : WordsLength (length words)
   expanded-permitted = subst WordsLength (sym byte-count) (permitted (expanded-key e))
@@ -62,24 +64,30 @@ module _ {key words : List ℕ} (bytes : Below 256 key) (e : Expanded key words)
       rw (count, ← expanded-is e) (numbers-digits (lit< tt) 4 (row .below))
 
   -- Check 14 is passed, so it may be left out.
-  words-left-out : (way : ℕ) (cs : List Check) (o : Outcome) → judged (wordsAndWay words way ++ cs) o ≡ judged (wayCheck way ∷ cs) o
-  words-left-out way cs o = judged-append (wordsCheck (length words) ∷ []) (wayCheck way ∷ cs) o ∙ judged-pass (words-passes expanded-permitted) _
+  words-left-out : (way : ℕ) (cs : List Check) (o : Outcome)
+      → judged (wordsAndWay words way ++ cs) o ≡ judged (wayCheck way ∷ cs) o
+  words-left-out way cs o = judged-append (wordsCheck (length words) ∷ []) (wayCheck way ∷ cs) o
+      ∙ judged-pass (words-passes expanded-permitted) _
 
   pub encryptBlock-under-key : (way : ℕ) (block out : List ℕ)
-      → encryptBlockCall words way block out ≡ judged (blockChecks (wayCheck way ∷ []) block out) (accepted 1 (encrypt key block))
+      → encryptBlockCall words way block out ≡ judged (blockChecks (wayCheck way ∷ []) block out)
+      (accepted 1 (encrypt key block))
   unfolding encryptBlockCall blockChecks encrypt
   encryptBlock-under-key way block out = rw (words-left-out way, words-expanded)
 
   pub decryptBlock-under-key : (way : ℕ) (block out : List ℕ)
-      → decryptBlockCall words way block out ≡ judged (blockChecks (wayCheck way ∷ []) block out) (accepted 1 (decrypt key block))
+      → decryptBlockCall words way block out ≡ judged (blockChecks (wayCheck way ∷ []) block out)
+      (accepted 1 (decrypt key block))
   unfolding decryptBlockCall blockChecks decrypt
   decryptBlock-under-key way block out = rw (words-left-out way, words-expanded)
 
-  pub encryptBook-under-key : (way : ℕ) (book out : List ℕ) → encryptBookCall words way book out ≡ encryptBookBy (wayCheck way ∷ []) (encrypt key) book out
+  pub encryptBook-under-key : (way : ℕ) (book out : List ℕ)
+      → encryptBookCall words way book out ≡ encryptBookBy (wayCheck way ∷ []) (encrypt key) book out
   unfolding encryptBookCall encryptBookBy bookChecks encrypt
   encryptBook-under-key way book out = rw (words-left-out way, words-expanded)
 
-  pub decryptBook-under-key : (way : ℕ) (book out : List ℕ) → decryptBookCall words way book out ≡ decryptBookBy (wayCheck way ∷ []) (decrypt key) book out
+  pub decryptBook-under-key : (way : ℕ) (book out : List ℕ)
+      → decryptBookCall words way book out ≡ decryptBookBy (wayCheck way ∷ []) (decrypt key) book out
   unfolding decryptBookCall decryptBookBy bookChecks decrypt
   decryptBook-under-key way book out = rw (words-left-out way, words-expanded)
 

@@ -10,7 +10,9 @@ use native.Mathlib.Omega.{arith}
 use lib.ListN.{length, getD, set, take, drop, length-drop}
 use lib.Seq.{drop-drop, getD-drop, take-add}
 use Rattle.clefia_spec.specs.Words.{fromDigits, xors}
-use Rattle.planbook_spec.specs.Book.{number, pieces, count, recordHolds, allRecordsHold, sheetHolds, sheetCount, contents, bodies, recordCount, eachBody, sheetsHold, cbcEncrypt, cbcDecrypt, mapBodies}
+use Rattle.planbook_spec.specs.Book.{number, pieces, count, recordHolds, allRecordsHold, sheetHolds, sheetCount}
+use Rattle.planbook_spec.specs.Book.{contents, bodies, recordCount, eachBody, sheetsHold, cbcEncrypt, cbcDecrypt}
+use Rattle.planbook_spec.specs.Book.{mapBodies}
 
 -- ---- numbers
 
@@ -47,20 +49,24 @@ byte-at at i bs = getD-drop at bs i 0
 
 pub number-two : (at : ℕ) (bs : List ℕ) → at + 2 ≤ length bs → number at 2 bs ≡ getD bs at 0 * 256 + getD bs (at + 1) 0
 unfolding number
-number-two at bs h = rw (take-two (drop at bs) (omega (arith, length-drop at bs)), first-at at bs, byte-at at 1 bs) (from-two _ _)
+number-two at bs h = rw (take-two (drop at bs) (omega (arith, length-drop at bs)), first-at at bs, byte-at at 1 bs)
+    (from-two _ _)
 
 -- ---- pieces
 
 suc-less : (n : ℕ) → suc n - 1 ≡ n
 suc-less n = omega arith
 
-pub pieces-next : (k n at : ℕ) (bs : List ℕ) → 0 < n → pieces k n (drop at bs) ≡ take k (drop at bs) ∷ pieces k (n - 1) (drop (at + k) bs)
+pub pieces-next : (k n at : ℕ) (bs : List ℕ) → 0 < n
+    → pieces k n (drop at bs) ≡ take k (drop at bs) ∷ pieces k (n - 1) (drop (at + k) bs)
 unfolding pieces
 pieces-next k zero at bs h = absurd (omega arith)
 pieces-next k (suc n) at bs h = rw (suc-less n, drop-drop k at bs)
 
 -- The records of one entry, added to the sum.
-pub count-next : (n at : ℕ) (bs : List ℕ) → 0 < n → recordCount (pieces 24 n (drop at bs)) ≡ count (take 24 (drop at bs)) + recordCount (pieces 24 (n - 1) (drop (at + 24) bs))
+pub count-next : (n at : ℕ) (bs : List ℕ) → 0 < n
+    → recordCount (pieces 24 n (drop at bs))
+    ≡ count (take 24 (drop at bs)) + recordCount (pieces 24 (n - 1) (drop (at + 24) bs))
 unfolding recordCount
 count-next n at bs left = rw (pieces-next 24 n at bs left)
 
@@ -79,7 +85,8 @@ module _ (f : List ℕ → List ℕ → List ℕ) (n from at : ℕ) (book : List
   nextBody = take (16 * count nextEntry) (drop at book)
 
   pub body-next : eachBody f (pieces 24 n (drop from book)) (drop at book)
-      ≡ f nextEntry nextBody ++ eachBody f (pieces 24 (n - 1) (drop (from + 24) book)) (drop (at + 16 * count nextEntry) book)
+      ≡ f nextEntry nextBody ++ eachBody f (pieces 24 (n - 1) (drop (from + 24) book))
+      (drop (at + 16 * count nextEntry) book)
   unfolding eachBody
   body-next = rw (pieces-next 24 n from book left, drop-drop (16 * count nextEntry) at book)
 
@@ -93,13 +100,15 @@ module _ (f : List ℕ → List ℕ → List ℕ) (n from at : ℕ) (book : List
 
 -- One block after the encrypted block p, and the chain that follows it.
 pub encrypt-next : (E : List ℕ → List ℕ) (n at : ℕ) (p bs : List ℕ) → 0 < n
-    → cbcEncrypt E n p (drop at bs) ≡ E (xors p (take 16 (drop at bs))) ++ cbcEncrypt E (n - 1) (E (xors p (take 16 (drop at bs)))) (drop (at + 16) bs)
+    → cbcEncrypt E n p (drop at bs) ≡ E (xors p (take 16 (drop at bs)))
+    ++ cbcEncrypt E (n - 1) (E (xors p (take 16 (drop at bs)))) (drop (at + 16) bs)
 unfolding cbcEncrypt
 encrypt-next E zero at p bs h = absurd (omega arith)
 encrypt-next E (suc n) at p bs h = rw (suc-less n, drop-drop 16 at bs)
 
 pub decrypt-next : (D : List ℕ → List ℕ) (n at : ℕ) (p bs : List ℕ) → 0 < n
-    → cbcDecrypt D n p (drop at bs) ≡ xors p (D (take 16 (drop at bs))) ++ cbcDecrypt D (n - 1) (take 16 (drop at bs)) (drop (at + 16) bs)
+    → cbcDecrypt D n p (drop at bs) ≡ xors p (D (take 16 (drop at bs)))
+    ++ cbcDecrypt D (n - 1) (take 16 (drop at bs)) (drop (at + 16) bs)
 unfolding cbcDecrypt
 decrypt-next D zero at p bs h = absurd (omega arith)
 decrypt-next D (suc n) at p bs h = rw (suc-less n, drop-drop 16 at bs)
@@ -111,12 +120,15 @@ bodies-at book = drop-drop (24 * sheetCount book) 4 book
 
 -- The head and the contents in one: the first 4 + 24n bytes of the book, with another first byte.
 pub mapBodies-front : (kind : ℕ) (f : List ℕ → List ℕ → List ℕ) (book : List ℕ) → 4 ≤ length book
-    → mapBodies kind f book ≡ set (take (4 + 24 * sheetCount book) book) 0 kind ++ eachBody f (contents book) (drop (4 + 24 * sheetCount book) book)
+    → mapBodies kind f book ≡ set (take (4 + 24 * sheetCount book) book) 0 kind
+    ++ eachBody f (contents book) (drop (4 + 24 * sheetCount book) book)
 unfolding mapBodies
 mapBodies-front kind f book h =
     rw (take-add 4 (24 * sheetCount book) book, ← bodies-at book)
-    (sym (append-assoc (kind ∷ take 3 (drop 1 book)) (take (24 * sheetCount book) (drop 4 book)) _) ∙ ap (λ (l : List ℕ). l ++ eachBody f (contents book) (bodies book)) (front book h))
+    (sym (append-assoc (kind ∷ take 3 (drop 1 book)) (take (24 * sheetCount book) (drop 4 book)) _)
+    ∙ ap (λ (l : List ℕ). l ++ eachBody f (contents book) (bodies book)) (front book h))
   where
-    front : (l : List ℕ) → 4 ≤ length l → kind ∷ take 3 (drop 1 l) ++ take (24 * sheetCount book) (drop 4 book) ≡ set (take 4 l ++ take (24 * sheetCount book) (drop 4 book)) 0 kind
+    front : (l : List ℕ) → 4 ≤ length l → kind ∷ take 3 (drop 1 l) ++ take (24 * sheetCount book) (drop 4 book)
+        ≡ set (take 4 l ++ take (24 * sheetCount book) (drop 4 book)) 0 kind
     front [] k = absurd (omega arith)
     front (a ∷ l) k = refl

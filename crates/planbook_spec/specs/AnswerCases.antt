@@ -9,8 +9,13 @@ use lib.Seq.{sets}
 use Rattle.clefia_spec.specs.Words.{fromDigits, toDigits, numbersOf, xors}
 use Rattle.clefia_spec.specs.Cases.{Case, _gives_, AllHold, allSame, computed}
 use Rattle.planbook_spec.specs.Outcome.{answer, after, judged}
-use Rattle.planbook_spec.specs.Checks.{keyCheck, wayCheck, blockCheck, outputCheck, wordsCheck, wordsFromBytes, constantCount, expandedCount, constantsCall, expandKeyCall, blockChecks, encryptBlockCall, decryptBlockCall}
-use Rattle.planbook_spec.specs.Book.{number, pieces, replicates, entryHolds, entriesHold, plotHolds, recordHolds, allRecordsHold, recordCount, formChecks, eachBody, sheetsHold, recordsCheck, cbcEncrypt, cbcDecrypt, encryptBody, decryptBody, mapBodies, bookChecks, encryptBookBy, decryptBookBy, encryptBookCall, decryptBookCall}
+use Rattle.planbook_spec.specs.Checks.{keyCheck, wayCheck, blockCheck, outputCheck, wordsCheck, wordsFromBytes}
+use Rattle.planbook_spec.specs.Checks.{constantCount, expandedCount, constantsCall, expandKeyCall, blockChecks}
+use Rattle.planbook_spec.specs.Checks.{encryptBlockCall, decryptBlockCall}
+use Rattle.planbook_spec.specs.Book.{number, pieces, replicates, entryHolds, entriesHold, plotHolds, recordHolds}
+use Rattle.planbook_spec.specs.Book.{allRecordsHold, recordCount, formChecks, eachBody, sheetsHold, recordsCheck}
+use Rattle.planbook_spec.specs.Book.{cbcEncrypt, cbcDecrypt, encryptBody, decryptBody, mapBodies, bookChecks}
+use Rattle.planbook_spec.specs.Book.{encryptBookBy, decryptBookBy, encryptBookCall, decryptBookCall}
 
 -- The toy cipher: the bytes of a block rotated by one place.
 abbrev pub toyEncrypt : List ℕ → List ℕ
@@ -48,7 +53,8 @@ replicated b r = set (set small 10 b) 36 r
 abbrev pub encryptedSmall : List ℕ
 encryptedSmall =
     2 ∷ 0 ∷ 0 ∷ 1 ∷ entryWith 41 1 0x10
-    ++ (0x11 ∷ 0x12 ∷ 0x3a ∷ 0x14 ∷ 0x15 ∷ 0x16 ∷ 0x10 ∷ 0x1a ∷ 0x19 ∷ 0x1a ∷ 0x1b ∷ 0x1c ∷ 0x1d ∷ 0x1e ∷ 0x1f ∷ 0x10 ∷ [])
+    ++ (0x11 ∷ 0x12 ∷ 0x3a ∷ 0x14 ∷ 0x15 ∷ 0x16 ∷ 0x10 ∷ 0x1a ∷ 0x19 ∷ 0x1a ∷ 0x1b ∷ 0x1c ∷ 0x1d ∷ 0x1e ∷ 0x1f ∷ 0x10
+    ∷ [])
 
 -- The four bytes of a row and a column. They are at 37 in the clear book and, each added to its
 -- byte of the iv, at 36 in the encrypted one: the toy rotates.
@@ -79,14 +85,18 @@ large =
 abbrev pub encryptedLarge : List ℕ
 encryptedLarge =
     2 ∷ 0 ∷ 0 ∷ 2 ∷ twoEntries
-    ++ (0x11 ∷ 0x12 ∷ 0x3a ∷ 0x14 ∷ 0x15 ∷ 0x16 ∷ 0x10 ∷ 0x1a ∷ 0x19 ∷ 0x16 ∷ 0x1b ∷ 0x1f ∷ 0x1d ∷ 0x1e ∷ 0x1f ∷ 0x10 ∷ [])
-    ++ (0x12 ∷ 0x3a ∷ 0x3d ∷ 0x15 ∷ 0x16 ∷ 0x10 ∷ 0x12 ∷ 0x1d ∷ 0x15 ∷ 0xfc ∷ 0x1c ∷ 0xfa ∷ 0x1e ∷ 0x1f ∷ 0x10 ∷ 0x11 ∷ [])
-    ++ (0x21 ∷ 0x22 ∷ 0x09 ∷ 0x24 ∷ 0x25 ∷ 0x26 ∷ 0x20 ∷ 0x29 ∷ 0x29 ∷ 0x2a ∷ 0x2b ∷ 0x2c ∷ 0x2d ∷ 0x2e ∷ 0x2f ∷ 0x20 ∷ [])
+    ++ (0x11 ∷ 0x12 ∷ 0x3a ∷ 0x14 ∷ 0x15 ∷ 0x16 ∷ 0x10 ∷ 0x1a ∷ 0x19 ∷ 0x16 ∷ 0x1b ∷ 0x1f ∷ 0x1d ∷ 0x1e ∷ 0x1f ∷ 0x10
+    ∷ [])
+    ++ (0x12 ∷ 0x3a ∷ 0x3d ∷ 0x15 ∷ 0x16 ∷ 0x10 ∷ 0x12 ∷ 0x1d ∷ 0x15 ∷ 0xfc ∷ 0x1c ∷ 0xfa ∷ 0x1e ∷ 0x1f ∷ 0x10 ∷ 0x11
+    ∷ [])
+    ++ (0x21 ∷ 0x22 ∷ 0x09 ∷ 0x24 ∷ 0x25 ∷ 0x26 ∷ 0x20 ∷ 0x29 ∷ 0x29 ∷ 0x2a ∷ 0x2b ∷ 0x2c ∷ 0x2d ∷ 0x2e ∷ 0x2f ∷ 0x20
+    ∷ [])
 
 pub bookCases : List Case
 bookCases =
     (encrypting large ∷ after large (encryptBookBy [] toyEncrypt large large) gives 3 ∷ encryptedLarge)
-    ∷ (decrypting encryptedLarge ∷ after encryptedLarge (decryptBookBy [] toyDecrypt encryptedLarge encryptedLarge) gives 3 ∷ large)
+    ∷ (decrypting encryptedLarge ∷ after encryptedLarge
+    (decryptBookBy [] toyDecrypt encryptedLarge encryptedLarge) gives 3 ∷ large)
     -- check 5: three bytes; one byte too many
     ∷ (encrypting (1 ∷ 0 ∷ 0 ∷ []) ∷ [] gives 5 * 2 ^ 32 ∷ [])
     ∷ (encrypting (replicate 65533 1) ∷ [] gives 5 * 2 ^ 32 ∷ [])
@@ -137,24 +147,32 @@ bookCases =
     ∷ (encrypting (sets (sets small 28 (1 ∷ 0 ∷ 0 ∷ 0 ∷ [])) 4 (1 ∷ 0 ∷ 0 ∷ 0 ∷ [])) ∷ [] gives 1 ∷ [])
     ∷ (encrypting (sets (sets small 28 (replicate 8 255)) 4 (replicate 4 255)) ∷ [] gives 1 ∷ [])
     -- byte 6 of an entry: 0, 1, 4 and 8 are accepted; 9 and 255 are not, and 9 comes before 11
-    ∷ (encrypting (replicated 0 1) ∷ encrypting (replicated 1 1) ∷ encrypting (replicated 4 1) ∷ encrypting (replicated 8 1) ∷ [] gives 1 ∷ 1 ∷ 1 ∷ 1 ∷ [])
-    ∷ (encrypting (replicated 9 1) ∷ encrypting (replicated 255 1) ∷ encrypting (replicated 9 0) ∷ [] gives 9 * 2 ^ 32 ∷ 9 * 2 ^ 32 ∷ 9 * 2 ^ 32 ∷ [])
+    ∷ (encrypting (replicated 0 1) ∷ encrypting (replicated 1 1) ∷ encrypting (replicated 4 1)
+    ∷ encrypting (replicated 8 1) ∷ [] gives 1 ∷ 1 ∷ 1 ∷ 1 ∷ [])
+    ∷ (encrypting (replicated 9 1) ∷ encrypting (replicated 255 1) ∷ encrypting (replicated 9 0) ∷ [] gives 9 * 2 ^ 32
+    ∷ 9 * 2 ^ 32 ∷ 9 * 2 ^ 32 ∷ [])
     -- the greatest replicate, and one more: under 0, 4, 5, 8 and 1; and 4 under 5
     ∷ (encrypting (replicated 0 4) ∷ encrypting (replicated 0 5) ∷ [] gives 1 ∷ 11 * 2 ^ 32 ∷ [])
     ∷ (encrypting (replicated 4 4) ∷ encrypting (replicated 4 5) ∷ [] gives 1 ∷ 11 * 2 ^ 32 ∷ [])
-    ∷ (encrypting (replicated 5 5) ∷ encrypting (replicated 5 6) ∷ encrypting (replicated 5 4) ∷ [] gives 1 ∷ 11 * 2 ^ 32 ∷ 1 ∷ [])
+    ∷ (encrypting (replicated 5 5) ∷ encrypting (replicated 5 6) ∷ encrypting (replicated 5 4) ∷ [] gives 1
+    ∷ 11 * 2 ^ 32 ∷ 1 ∷ [])
     ∷ (encrypting (replicated 8 8) ∷ encrypting (replicated 8 9) ∷ [] gives 1 ∷ 11 * 2 ^ 32 ∷ [])
     ∷ (encrypting (replicated 1 2) ∷ [] gives 11 * 2 ^ 32 ∷ [])
     -- replicate 5 in the second sheet: its own number counts, and not that of the first
     ∷ (encrypting (set (set large 10 5) 92 5) ∷ encrypting (set (set large 34 5) 92 5) ∷ [] gives 11 * 2 ^ 32 ∷ 3 ∷ [])
     -- 0 and 4 in byte 6 are two books, and in what they become that byte alone differs
-    ∷ (encrypting (set large 10 4) ∷ after large (encryptBookBy [] toyEncrypt (set large 10 4) large) gives 3 ∷ set encryptedLarge 10 4)
-    ∷ (decrypting (set encryptedLarge 10 4) ∷ after large (decryptBookBy [] toyDecrypt (set encryptedLarge 10 4) large) gives 3 ∷ set large 10 4)
+    ∷ (encrypting (set large 10 4) ∷ after large (encryptBookBy [] toyEncrypt (set large 10 4) large) gives 3
+    ∷ set encryptedLarge 10 4)
+    ∷ (decrypting (set encryptedLarge 10 4) ∷ after large
+    (decryptBookBy [] toyDecrypt (set encryptedLarge 10 4) large) gives 3 ∷ set large 10 4)
     -- row and column, encrypting and decrypting: accepted; one of the two 0; one or both beyond 999
-    ∷ (plotAnswers 0 0 ++ plotAnswers 1 1 ++ plotAnswers 999 999 ++ plotAnswers 1 999 ++ plotAnswers 999 1 gives replicate 10 1)
+    ∷ (plotAnswers 0 0 ++ plotAnswers 1 1 ++ plotAnswers 999 999 ++ plotAnswers 1 999
+    ++ plotAnswers 999 1 gives replicate 10 1)
     ∷ (plotAnswers 256 1 ++ plotAnswers 1 256 gives replicate 4 1)
-    ∷ (plotAnswers 0 1 ++ plotAnswers 1 0 ++ plotAnswers 999 0 ++ plotAnswers 0 999 ++ plotAnswers 256 0 ++ plotAnswers 0 256 gives replicate 12 (11 * 2 ^ 32))
-    ∷ (plotAnswers 0 1000 ++ plotAnswers 1000 0 ++ plotAnswers 1000 1 ++ plotAnswers 1 1000 ++ plotAnswers 1000 1000 gives replicate 10 (11 * 2 ^ 32))
+    ∷ (plotAnswers 0 1 ++ plotAnswers 1 0 ++ plotAnswers 999 0 ++ plotAnswers 0 999 ++ plotAnswers 256 0
+    ++ plotAnswers 0 256 gives replicate 12 (11 * 2 ^ 32))
+    ∷ (plotAnswers 0 1000 ++ plotAnswers 1000 0 ++ plotAnswers 1000 1 ++ plotAnswers 1 1000
+    ++ plotAnswers 1000 1000 gives replicate 10 (11 * 2 ^ 32))
     ∷ (plotAnswers 1025 1 ++ plotAnswers 1 1025 ++ plotAnswers 65535 65535 gives replicate 6 (11 * 2 ^ 32))
     -- 4 comes before 5
     ∷ (answer (encryptBookBy [] toyEncrypt (1 ∷ 0 ∷ 0 ∷ []) (replicate 4 0)) ∷ [] gives 4 * 2 ^ 32 ∷ [])
@@ -166,13 +184,17 @@ bookCases =
     ∷ (decrypting (set encryptedLarge 91 0x2c) ∷ [] gives 3 ∷ [])
     -- decrypting: replicate 5 where the first sheet has five, and where its own has; 8 and 9 where
     -- its own has eight; 9 in byte 6
-    ∷ (decrypting (set (set encryptedLarge 10 5) 91 0x2d) ∷ decrypting (set (set encryptedLarge 34 5) 91 0x2d) ∷ [] gives 11 * 2 ^ 32 ∷ 3 ∷ [])
-    ∷ (decrypting (set (set encryptedLarge 34 8) 91 0x20) ∷ decrypting (set (set encryptedLarge 34 8) 91 0x21) ∷ [] gives 3 ∷ 11 * 2 ^ 32 ∷ [])
+    ∷ (decrypting (set (set encryptedLarge 10 5) 91 0x2d) ∷ decrypting (set (set encryptedLarge 34 5) 91 0x2d)
+    ∷ [] gives 11 * 2 ^ 32 ∷ 3 ∷ [])
+    ∷ (decrypting (set (set encryptedLarge 34 8) 91 0x20) ∷ decrypting (set (set encryptedLarge 34 8) 91 0x21)
+    ∷ [] gives 3 ∷ 11 * 2 ^ 32 ∷ [])
     ∷ (decrypting (set encryptedLarge 34 9) ∷ [] gives 9 * 2 ^ 32 ∷ [])
     ∷ []
 
 pub bookCases-hold : AllHold bookCases
-unfolding bookCases rising allSame fromDigits toDigits xors answer after judged outputCheck number pieces replicates entryHolds entriesHold plotHolds recordHolds allRecordsHold recordCount formChecks eachBody sheetsHold recordsCheck cbcEncrypt cbcDecrypt encryptBody decryptBody mapBodies bookChecks encryptBookBy decryptBookBy
+unfolding bookCases rising allSame fromDigits toDigits xors answer after judged outputCheck number pieces replicates
+    entryHolds entriesHold plotHolds recordHolds allRecordsHold recordCount formChecks eachBody sheetsHold recordsCheck
+    cbcEncrypt cbcDecrypt encryptBody decryptBody mapBodies bookChecks encryptBookBy decryptBookBy
 bookCases-hold = computed bookCases refl
 
 -- What both calls for a block answer under words of w bytes, by a way, to a block of n bytes with
@@ -216,7 +238,8 @@ callCases =
     -- counts of words, one byte off each permitted length, whole words between them, and a length
     -- that is permitted if cut to eight bits; and the three permitted ones
     ∷ (wordsFromBytes (rising 12 1) gives 0x01020304 ∷ 0x05060708 ∷ 0x090a0b0c ∷ [])
-    ∷ (lengthsAnswers (0 ∷ 16 ∷ 24 ∷ 32 ∷ 40 ∷ 48 ∷ 56 ∷ 159 ∷ 161 ∷ 176 ∷ 191 ∷ 193 ∷ 208 ∷ 223 ∷ 225 ∷ 416 ∷ []) gives replicate 32 (14 * 2 ^ 32))
+    ∷ (lengthsAnswers (0 ∷ 16 ∷ 24 ∷ 32 ∷ 40 ∷ 48 ∷ 56 ∷ 159 ∷ 161 ∷ 176 ∷ 191 ∷ 193 ∷ 208 ∷ 223 ∷ 225 ∷ 416
+    ∷ []) gives replicate 32 (14 * 2 ^ 32))
     ∷ (lengthsAnswers (160 ∷ 192 ∷ 224 ∷ []) gives replicate 6 1)
     -- blocks: 14, 2, 3, 4
     ∷ (blockAnswers 161 4 15 15 ++ blockAnswers 0 1 15 16 ++ blockAnswers 225 2 16 17 gives replicate 6 (14 * 2 ^ 32))
@@ -224,8 +247,11 @@ callCases =
     ∷ (blockAnswers 160 3 15 15 ++ blockAnswers 224 3 17 16 gives replicate 4 (3 * 2 ^ 32))
     ∷ (blockAnswers 160 3 16 17 ++ blockAnswers 192 1 16 15 gives replicate 4 (4 * 2 ^ 32))
     -- accepted, with the count: each key length or count of words, and each way
-    ∷ (answer (constantsCall 16 (replicate 240 0)) ∷ answer (constantsCall 24 (replicate 336 0)) ∷ answer (constantsCall 32 (replicate 368 0)) ∷ [] gives 60 ∷ 84 ∷ 92 ∷ [])
-    ∷ (answer (expandKeyCall (replicate 16 0) 1 (replicate 160 0)) ∷ answer (expandKeyCall (replicate 24 0) 2 (replicate 192 0)) ∷ answer (expandKeyCall (replicate 32 0) 3 (replicate 224 0)) ∷ [] gives 40 ∷ 48 ∷ 56 ∷ [])
+    ∷ (answer (constantsCall 16 (replicate 240 0)) ∷ answer (constantsCall 24 (replicate 336 0))
+    ∷ answer (constantsCall 32 (replicate 368 0)) ∷ [] gives 60 ∷ 84 ∷ 92 ∷ [])
+    ∷ (answer (expandKeyCall (replicate 16 0) 1 (replicate 160 0))
+    ∷ answer (expandKeyCall (replicate 24 0) 2 (replicate 192 0))
+    ∷ answer (expandKeyCall (replicate 32 0) 3 (replicate 224 0)) ∷ [] gives 40 ∷ 48 ∷ 56 ∷ [])
     ∷ (blockAnswers 160 1 16 16 ++ blockAnswers 192 2 16 16 ++ blockAnswers 224 3 16 16 gives replicate 6 1)
     -- books: 14, 2, 4, 5
     ∷ (bookAnswers 32 4 0 4 ++ bookAnswers 161 1 0 4 ++ bookAnswers 223 1 0 0 gives replicate 6 (14 * 2 ^ 32))
@@ -235,5 +261,8 @@ callCases =
     ∷ []
 
 pub callCases-hold : AllHold callCases
-unfolding callCases rising lengthsAnswers allSame fromDigits numbersOf answer judged keyCheck wayCheck blockCheck outputCheck wordsCheck wordsFromBytes constantCount expandedCount constantsCall expandKeyCall blockChecks encryptBlockCall decryptBlockCall formChecks bookChecks encryptBookBy decryptBookBy encryptBookCall decryptBookCall
+unfolding callCases rising lengthsAnswers allSame fromDigits numbersOf answer judged keyCheck wayCheck blockCheck
+    outputCheck wordsCheck wordsFromBytes constantCount expandedCount constantsCall expandKeyCall blockChecks
+    encryptBlockCall decryptBlockCall formChecks bookChecks encryptBookBy decryptBookBy encryptBookCall
+    decryptBookCall
 callCases-hold = computed callCases refl

@@ -44,7 +44,8 @@ iv e = take 16 (drop 8 e)
 -- is above that, and so at least 1; there are 1 to 1024 records, and at most 8 replicates; byte 7
 -- is zero. (Document 01 calls an entry that breaks this broken.)
 unfoldable pub entryHolds : ℕ → List ℕ → Bool
-entryHolds previous e = ltb previous (trial e) && leb 1 (count e) && leb (count e) 1024 && leb (replicates e) 8 && eqb (getD e 7 0) 0
+entryHolds previous e = ltb previous (trial e) && leb 1
+    (count e) && leb (count e) 1024 && leb (replicates e) 8 && eqb (getD e 7 0) 0
 
 unfoldable pub entriesHold : ℕ → List (List ℕ) → Bool
 entriesHold previous [] = true
@@ -115,7 +116,8 @@ abbrev pub sheetEntry : ℕ → List ℕ → List ℕ
 sheetEntry i book = take 24 (drop (24 * i) (drop 4 book))
 
 abbrev pub sheetBody : ℕ → List ℕ → List ℕ
-sheetBody i book = take (16 * count (sheetEntry i book)) (drop (16 * recordCount (pieces 24 i (drop 4 book))) (bodies book))
+sheetBody i book = take (16 * count (sheetEntry i book))
+    (drop (16 * recordCount (pieces 24 i (drop 4 book))) (bodies book))
 
 -- Checks 5 to 10, of a book's form; kind is the first byte that the call permits.
 unfoldable pub formChecks : ℕ → List ℕ → List Check
@@ -168,7 +170,8 @@ decryptBody D e body = cbcDecrypt D (count e) (iv e) body
 -- A book with another kind, the rest of its head and its contents as they were, and f applied to
 -- each body in its place.
 unfoldable pub mapBodies : ℕ → (List ℕ → List ℕ → List ℕ) → List ℕ → List ℕ
-mapBodies kind f book = kind ∷ take 3 (drop 1 book) ++ (take (24 * sheetCount book) (drop 4 book) ++ eachBody f (contents book) (bodies book))
+mapBodies kind f book = kind ∷ take 3 (drop 1 book)
+    ++ (take (24 * sheetCount book) (drop 4 book) ++ eachBody f (contents book) (bodies book))
 
 -- Checks 5 to 11, which look at the book alone: a call may have check 4 before them or after them.
 abbrev pub formAndRecords : ℕ → (List ℕ → List ℕ → List ℕ) → List ℕ → List Check
@@ -186,7 +189,8 @@ encryptBookBy cs E book out =
 
 unfoldable pub decryptBookBy : List Check → (List ℕ → List ℕ) → List ℕ → List ℕ → Outcome
 decryptBookBy cs D book out =
-    judged (bookChecks cs 2 (decryptBody D) book out) (accepted (recordCount (contents book)) (mapBodies 1 (decryptBody D) book))
+    judged (bookChecks cs 2 (decryptBody D) book out)
+    (accepted (recordCount (contents book)) (mapBodies 1 (decryptBody D) book))
 
 -- The book that a clear book must become when it is sealed by E, the cipher under given words or
 -- under a key; made from E and the clear book alone: it does not depend on the way. In each sheet
@@ -201,7 +205,9 @@ decryptedBook D book = mapBodies 1 (decryptBody D) book
 
 -- A book encrypted and decrypted under words: checks 14, 2, 4, 5 to 10, 11; then R, and the book.
 unfoldable pub encryptBookCall : List ℕ → ℕ → List ℕ → List ℕ → Outcome
-encryptBookCall words way book out = encryptBookBy (wordsAndWay words way) (encryptUnder (wordsFromBytes words)) book out
+encryptBookCall words way book out = encryptBookBy (wordsAndWay words way)
+    (encryptUnder (wordsFromBytes words)) book out
 
 unfoldable pub decryptBookCall : List ℕ → ℕ → List ℕ → List ℕ → Outcome
-decryptBookCall words way book out = decryptBookBy (wordsAndWay words way) (decryptUnder (wordsFromBytes words)) book out
+decryptBookCall words way book out = decryptBookBy (wordsAndWay words way)
+    (decryptUnder (wordsFromBytes words)) book out

@@ -75,7 +75,9 @@ blockChecks cs block out = cs ++ (blockCheck block ∷ outputCheck 16 out ∷ []
 -- One block encrypted and decrypted under words: checks 14, 2, 3, 4; the count is 1. (Document 01's
 -- terms: sealed and opened.)
 unfoldable pub encryptBlockCall : List ℕ → ℕ → List ℕ → List ℕ → Outcome
-encryptBlockCall words way block out = judged (blockChecks (wordsAndWay words way) block out) (accepted 1 (encryptUnder (wordsFromBytes words) block))
+encryptBlockCall words way block out = judged (blockChecks (wordsAndWay words way) block out)
+    (accepted 1 (encryptUnder (wordsFromBytes words) block))
 
 unfoldable pub decryptBlockCall : List ℕ → ℕ → List ℕ → List ℕ → Outcome
-decryptBlockCall words way block out = judged (blockChecks (wordsAndWay words way) block out) (accepted 1 (decryptUnder (wordsFromBytes words) block))
+decryptBlockCall words way block out = judged (blockChecks (wordsAndWay words way) block out)
+    (accepted 1 (decryptUnder (wordsFromBytes words) block))

@@ -42,8 +42,10 @@ noteChecks cs counter note out = cs ++ (blockCheck counter ∷ outputCheck (leng
 
 -- A note encrypted or decrypted by any E: the count is that of its bytes.
 unfoldable pub cryptNoteBy : List Check → (List ℕ → List ℕ) → List ℕ → List ℕ → List ℕ → Outcome
-cryptNoteBy cs E counter note out = judged (noteChecks cs counter note out) (accepted (length note) (ctr E counter note))
+cryptNoteBy cs E counter note out = judged (noteChecks cs counter note out)
+    (accepted (length note) (ctr E counter note))
 
 -- Under words: checks 14, 2, 3, 4, 12.
 unfoldable pub cryptNoteCall : List ℕ → ℕ → List ℕ → List ℕ → List ℕ → Outcome
-cryptNoteCall words way counter note out = cryptNoteBy (wordsAndWay words way) (encryptUnder (wordsFromBytes words)) counter note out
+cryptNoteCall words way counter note out =
+    cryptNoteBy (wordsAndWay words way) (encryptUnder (wordsFromBytes words)) counter note out

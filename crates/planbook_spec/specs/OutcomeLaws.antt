@@ -50,11 +50,13 @@ pub record Judges (cs : List Check) (n : ℕ) (bs : List ℕ) (o : Outcome) : Ty
 refused-not-accepted : {c n : ℕ} {bs : List ℕ} → refused c ≡ accepted n bs → ⊥
 refused-not-accepted e = let z : _≡_ {A = ℕ} 0 1 = cc in omega arith
 
-refuses-first : (cs : List Check) (n : ℕ) (bs : List ℕ) (c : ℕ) → judged cs (accepted n bs) ≡ refused c → FirstFailure cs c
+refuses-first : (cs : List Check) (n : ℕ) (bs : List ℕ) (c : ℕ) → judged cs (accepted n bs) ≡ refused c
+    → FirstFailure cs c
 unfolding judged
 refuses-first [] n bs c e = let z : _≡_ {A = ℕ} 0 1 = cc in absurd (omega arith)
 refuses-first (check d true ∷ cs) n bs c e = later (refuses-first cs n bs c e)
-refuses-first (check d false ∷ cs) n bs c e = let same : d ≡ c = cc in subst (FirstFailure (check d false ∷ cs)) same here
+refuses-first (check d false ∷ cs) n bs c e = let same : d ≡ c = cc in
+    subst (FirstFailure (check d false ∷ cs)) same here
 
 -- Of an accepted call: every check passed, and count and bytes are those that the call gives.
 pub record Passed (cs : List Check) (n m : ℕ) (bs xs : List ℕ) : Type 0 where
@@ -62,7 +64,8 @@ pub record Passed (cs : List Check) (n m : ℕ) (bs xs : List ℕ) : Type 0 wher
   pub sameCount : n ≡ m
   pub sameBytes : bs ≡ xs
 
-pub passed : {m : ℕ} {xs : List ℕ} (cs : List Check) (n : ℕ) (bs : List ℕ) → judged cs (accepted n bs) ≡ accepted m xs → Passed cs n m bs xs
+pub passed : {m : ℕ} {xs : List ℕ} (cs : List Check) (n : ℕ) (bs : List ℕ) → judged cs (accepted n bs) ≡ accepted m xs
+    → Passed cs n m bs xs
 unfolding judged
 passed [] n bs e = record { checks = none; sameCount = cc; sameBytes = cc }
 passed (check d true ∷ cs) n bs e =
@@ -75,7 +78,8 @@ judges cs n bs =
     record {
       refuses = λ c. (refuses-first cs n bs c, λ f. judged-first f (accepted n bs));
       accepts = (λ e. passed cs n bs e .checks, λ p. judged-pass p (accepted n bs));
-      either = ⊎-map (λ f. (f .0, judged-first (f .1) (accepted n bs))) (λ p. judged-pass p (accepted n bs)) (first-or-all cs);
+      either = ⊎-map (λ f. (f .0, judged-first (f .1) (accepted n bs))) (λ p. judged-pass p (accepted n bs))
+          (first-or-all cs);
     }
 
 -- Lists of passed checks, in parts and joined.
@@ -103,7 +107,8 @@ pass-check {c} {b} e = subst (λ (t : Bool). AllPass (check c t ∷ [])) (sym e)
 
 -- A call's contract pins its number and its output: two answers to one outcome, with one output at
 -- entry, are equal in both.
-pub answers-equal : {o : Outcome} {out : List ℕ} {r r′ : ℕ} {exit exit′ : List ℕ} → Answers o out r exit → Answers o out r′ exit′ → (r ≡ r′) × (exit ≡ exit′)
+pub answers-equal : {o : Outcome} {out : List ℕ} {r r′ : ℕ} {exit exit′ : List ℕ} → Answers o out r exit
+    → Answers o out r′ exit′ → (r ≡ r′) × (exit ≡ exit′)
 answers-equal a b = (a .number ∙ sym (b .number), a .output ∙ sym (b .output))
 
 -- An accepted outcome: its answer is the count, and the output afterwards is its bytes.
@@ -124,10 +129,12 @@ unfolding answer after
 refused-is out e = record { number = ap answer e; untouched = ap (after out) e }
 
 -- The first check of a list, where it is known whether it passes.
-pub judged-true : {b : Bool} → b ≡ true → (c : ℕ) (cs : List Check) (o : Outcome) → judged (check c b ∷ cs) o ≡ judged cs o
+pub judged-true : {b : Bool} → b ≡ true → (c : ℕ) (cs : List Check) (o : Outcome)
+    → judged (check c b ∷ cs) o ≡ judged cs o
 unfolding judged
 judged-true e c cs o = ap (λ (t : Bool). judged (check c t ∷ cs) o) e
 
-pub judged-false : {b : Bool} → b ≡ false → (c : ℕ) (cs : List Check) (o : Outcome) → judged (check c b ∷ cs) o ≡ refused c
+pub judged-false : {b : Bool} → b ≡ false → (c : ℕ) (cs : List Check) (o : Outcome)
+    → judged (check c b ∷ cs) o ≡ refused c
 unfolding judged
 judged-false e c cs o = ap (λ (t : Bool). judged (check c t ∷ cs) o) e

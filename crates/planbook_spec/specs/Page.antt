@@ -8,7 +8,8 @@ use lib.ListN.{length}
 use Rattle.clefia_spec.specs.Words.{choose}
 use Rattle.planbook_spec.specs.Outcome.{Outcome, accepted, Check, check, judged}
 use Rattle.planbook_spec.specs.Checks.{outputCheck}
-use Rattle.planbook_spec.specs.Book.{pieces, count, recordTrial, recordEntry, recordReplicate, recordRow, recordColumn, sheetCount, sheetEntry, sheetBody, asItIs, formAndRecords}
+use Rattle.planbook_spec.specs.Book.{pieces, count, recordTrial, recordEntry, recordReplicate, recordRow}
+use Rattle.planbook_spec.specs.Book.{recordColumn, sheetCount, sheetEntry, sheetBody, asItIs, formAndRecords}
 
 -- The decimal digits of a number below 10 ^ k, the highest first, without leading zeros; 0 is one
 -- digit. (Of a greater number the last k digits.) The digit 0 is the character 48.
@@ -70,7 +71,8 @@ sheetCheck i book = check 13 (ltb i (sheetCount book))
 -- The checks of the call: 5 to 11 of a clear book, of all its sheets, then 13, and 4 last, since
 -- only a sheet that exists has a page whose length is known.
 unfoldable pub pageChecks : List ℕ → ℕ → List ℕ → List Check
-pageChecks book i out = formAndRecords 1 asItIs book ++ (sheetCheck i book ∷ outputCheck (32 * lineCount i book) out ∷ [])
+pageChecks book i out =
+    formAndRecords 1 asItIs book ++ (sheetCheck i book ∷ outputCheck (32 * lineCount i book) out ∷ [])
 
 -- The page of a clear book: the count is that of its lines.
 unfoldable pub pageCall : List ℕ → ℕ → List ℕ → Outcome

@@ -10,8 +10,11 @@ use Rattle.clefia_spec.specs.Words.{fromDigits, toDigits}
 use Rattle.clefia_spec.specs.Cases.{Case, _gives_, AllHold, allSame, computed}
 use Rattle.planbook_spec.specs.Outcome.{answer, after, judged}
 use Rattle.planbook_spec.specs.Checks.{outputCheck}
-use Rattle.planbook_spec.specs.Book.{number, pieces, replicates, entryHolds, entriesHold, plotHolds, recordHolds, allRecordsHold, recordCount, sheetEntry, sheetBody, formChecks, sheetsHold, recordsCheck}
-use Rattle.planbook_spec.specs.Page.{decimal, spaces, rightAligned, numberField, heading, line, lines, page, sheetCheck, pageChecks, pageCall}
+use Rattle.planbook_spec.specs.Book.{number, pieces, replicates, entryHolds, entriesHold, plotHolds, recordHolds}
+use Rattle.planbook_spec.specs.Book.{allRecordsHold, recordCount, sheetEntry, sheetBody, formChecks, sheetsHold}
+use Rattle.planbook_spec.specs.Book.{recordsCheck}
+use Rattle.planbook_spec.specs.Page.{decimal, spaces, rightAligned, numberField, heading, line, lines, page}
+use Rattle.planbook_spec.specs.Page.{sheetCheck, pageChecks, pageCall}
 use Rattle.planbook_spec.specs.AnswerCases.{rising, entryWith, small, large, plot}
 
 -- The book of the example: one record, of trial 41, entry 7, replicate 2, row 12 and column 3.
@@ -37,31 +40,36 @@ shown book i m = paged book i m ∷ after (replicate m 0) (pageCall book i (repl
 abbrev pub headingBytes : List ℕ
 headingBytes =
     (0x20 ∷ 0x20 ∷ 0x20 ∷ 0x20 ∷ 0x20 ∷ 0x54 ∷ 0x52 ∷ 0x49 ∷ 0x41 ∷ 0x4c ∷ 0x20 ∷ 0x20 ∷ 0x20 ∷ 0x20 ∷ 0x20 ∷ 0x20 ∷ [])
-    ++ (0x45 ∷ 0x4e ∷ 0x54 ∷ 0x52 ∷ 0x59 ∷ 0x20 ∷ 0x52 ∷ 0x20 ∷ 0x52 ∷ 0x4f ∷ 0x57 ∷ 0x20 ∷ 0x43 ∷ 0x4f ∷ 0x4c ∷ 0x0a ∷ [])
+    ++ (0x45 ∷ 0x4e ∷ 0x54 ∷ 0x52 ∷ 0x59 ∷ 0x20 ∷ 0x52 ∷ 0x20 ∷ 0x52 ∷ 0x4f ∷ 0x57 ∷ 0x20 ∷ 0x43 ∷ 0x4f ∷ 0x4c ∷ 0x0a
+    ∷ [])
 
 -- "        41          7 2  12   3"
 abbrev pub exampleBytes : List ℕ
 exampleBytes =
     (0x20 ∷ 0x20 ∷ 0x20 ∷ 0x20 ∷ 0x20 ∷ 0x20 ∷ 0x20 ∷ 0x20 ∷ 0x34 ∷ 0x31 ∷ 0x20 ∷ 0x20 ∷ 0x20 ∷ 0x20 ∷ 0x20 ∷ 0x20 ∷ [])
-    ++ (0x20 ∷ 0x20 ∷ 0x20 ∷ 0x20 ∷ 0x37 ∷ 0x20 ∷ 0x32 ∷ 0x20 ∷ 0x20 ∷ 0x31 ∷ 0x32 ∷ 0x20 ∷ 0x20 ∷ 0x20 ∷ 0x33 ∷ 0x0a ∷ [])
+    ++ (0x20 ∷ 0x20 ∷ 0x20 ∷ 0x20 ∷ 0x37 ∷ 0x20 ∷ 0x32 ∷ 0x20 ∷ 0x20 ∷ 0x31 ∷ 0x32 ∷ 0x20 ∷ 0x20 ∷ 0x20 ∷ 0x33 ∷ 0x0a
+    ∷ [])
 
 -- "        41          8 4 999 999"
 abbrev pub secondBytes : List ℕ
 secondBytes =
     (0x20 ∷ 0x20 ∷ 0x20 ∷ 0x20 ∷ 0x20 ∷ 0x20 ∷ 0x20 ∷ 0x20 ∷ 0x34 ∷ 0x31 ∷ 0x20 ∷ 0x20 ∷ 0x20 ∷ 0x20 ∷ 0x20 ∷ 0x20 ∷ [])
-    ++ (0x20 ∷ 0x20 ∷ 0x20 ∷ 0x20 ∷ 0x38 ∷ 0x20 ∷ 0x34 ∷ 0x20 ∷ 0x39 ∷ 0x39 ∷ 0x39 ∷ 0x20 ∷ 0x39 ∷ 0x39 ∷ 0x39 ∷ 0x0a ∷ [])
+    ++ (0x20 ∷ 0x20 ∷ 0x20 ∷ 0x20 ∷ 0x38 ∷ 0x20 ∷ 0x34 ∷ 0x20 ∷ 0x39 ∷ 0x39 ∷ 0x39 ∷ 0x20 ∷ 0x39 ∷ 0x39 ∷ 0x39 ∷ 0x0a
+    ∷ [])
 
 -- "        42          7 1   0   0"
 abbrev pub reserveBytes : List ℕ
 reserveBytes =
     (0x20 ∷ 0x20 ∷ 0x20 ∷ 0x20 ∷ 0x20 ∷ 0x20 ∷ 0x20 ∷ 0x20 ∷ 0x34 ∷ 0x32 ∷ 0x20 ∷ 0x20 ∷ 0x20 ∷ 0x20 ∷ 0x20 ∷ 0x20 ∷ [])
-    ++ (0x20 ∷ 0x20 ∷ 0x20 ∷ 0x20 ∷ 0x37 ∷ 0x20 ∷ 0x31 ∷ 0x20 ∷ 0x20 ∷ 0x20 ∷ 0x30 ∷ 0x20 ∷ 0x20 ∷ 0x20 ∷ 0x30 ∷ 0x0a ∷ [])
+    ++ (0x20 ∷ 0x20 ∷ 0x20 ∷ 0x20 ∷ 0x37 ∷ 0x20 ∷ 0x31 ∷ 0x20 ∷ 0x20 ∷ 0x20 ∷ 0x30 ∷ 0x20 ∷ 0x20 ∷ 0x20 ∷ 0x30 ∷ 0x0a
+    ∷ [])
 
 -- "4294967295 4294967295 8 999 999"
 abbrev pub greatestBytes : List ℕ
 greatestBytes =
     (0x34 ∷ 0x32 ∷ 0x39 ∷ 0x34 ∷ 0x39 ∷ 0x36 ∷ 0x37 ∷ 0x32 ∷ 0x39 ∷ 0x35 ∷ 0x20 ∷ 0x34 ∷ 0x32 ∷ 0x39 ∷ 0x34 ∷ 0x39 ∷ [])
-    ++ (0x36 ∷ 0x37 ∷ 0x32 ∷ 0x39 ∷ 0x35 ∷ 0x20 ∷ 0x38 ∷ 0x20 ∷ 0x39 ∷ 0x39 ∷ 0x39 ∷ 0x20 ∷ 0x39 ∷ 0x39 ∷ 0x39 ∷ 0x0a ∷ [])
+    ++ (0x36 ∷ 0x37 ∷ 0x32 ∷ 0x39 ∷ 0x35 ∷ 0x20 ∷ 0x38 ∷ 0x20 ∷ 0x39 ∷ 0x39 ∷ 0x39 ∷ 0x20 ∷ 0x39 ∷ 0x39 ∷ 0x39 ∷ 0x0a
+    ∷ [])
 
 pub pageCases : List Case
 pageCases =
@@ -90,7 +98,9 @@ pageCases =
     ∷ []
 
 pub pageCases-hold : AllHold pageCases
-unfolding pageCases rising allSame fromDigits toDigits answer after judged outputCheck number pieces replicates entryHolds entriesHold plotHolds recordHolds allRecordsHold recordCount formChecks sheetsHold recordsCheck decimal spaces rightAligned heading line lines page sheetCheck pageChecks pageCall
+unfolding pageCases rising allSame fromDigits toDigits answer after judged outputCheck number pieces replicates
+    entryHolds entriesHold plotHolds recordHolds allRecordsHold recordCount formChecks sheetsHold recordsCheck decimal
+    spaces rightAligned heading line lines page sheetCheck pageChecks pageCall
 pageCases-hold = computed pageCases refl
 
 -- An index that no book has a sheet of.
@@ -100,25 +110,34 @@ beyond = 2 ^ 64 - 1
 -- Checks 5 to 11, 13 and 4. Each of the first seven has a case where 13 and 4 fail too.
 pub pageCheckCases : List Case
 pageCheckCases =
-    (paged (1 ∷ 0 ∷ 0 ∷ []) beyond 0 ∷ paged (replicate 65533 1) beyond 0 ∷ paged (replicate 65532 1) beyond 0 ∷ [] gives 5 * 2 ^ 32 ∷ 5 * 2 ^ 32 ∷ 6 * 2 ^ 32 ∷ [])
+    (paged (1 ∷ 0 ∷ 0 ∷ []) beyond 0 ∷ paged (replicate 65533 1) beyond 0 ∷ paged (replicate 65532 1) beyond 0
+    ∷ [] gives 5 * 2 ^ 32 ∷ 5 * 2 ^ 32 ∷ 6 * 2 ^ 32 ∷ [])
     -- a sealed book; the second byte; 65 sheets; contents that are cut
-    ∷ (paged (set large 0 2) beyond 0 ∷ paged (set large 1 1) beyond 0 ∷ paged (set large 3 65) beyond 0 ∷ paged (take 51 large) beyond 0 ∷ []
+    ∷ (paged (set large 0 2) beyond 0 ∷ paged (set large 1 1) beyond 0 ∷ paged (set large 3 65) beyond 0
+    ∷ paged (take 51 large) beyond 0 ∷ []
     gives 6 * 2 ^ 32 ∷ 6 * 2 ^ 32 ∷ 7 * 2 ^ 32 ∷ 8 * 2 ^ 32 ∷ [])
     -- trials that do not rise; a byte too few, and one too many
-    ∷ (paged (set large 31 41) beyond 0 ∷ paged (take 99 large) beyond 0 ∷ paged (large ++ (0 ∷ [])) beyond 0 ∷ [] gives 9 * 2 ^ 32 ∷ 10 * 2 ^ 32 ∷ 10 * 2 ^ 32 ∷ [])
+    ∷ (paged (set large 31 41) beyond 0 ∷ paged (take 99 large) beyond 0 ∷ paged (large ++ (0 ∷ [])) beyond 0
+    ∷ [] gives 9 * 2 ^ 32 ∷ 10 * 2 ^ 32 ∷ 10 * 2 ^ 32 ∷ [])
     -- 11 before 13, in either sheet; and of the whole book, whichever sheet is asked for
     ∷ (paged (set large 60 0) beyond 0 ∷ paged (set large 92 0) beyond 0 ∷ [] gives 11 * 2 ^ 32 ∷ 11 * 2 ^ 32 ∷ [])
-    ∷ (paged (set large 92 0) 0 96 ∷ paged (set large 60 0) 1 64 ∷ paged (set large 76 0) 1 64 ∷ [] gives 11 * 2 ^ 32 ∷ 11 * 2 ^ 32 ∷ 11 * 2 ^ 32 ∷ [])
+    ∷ (paged (set large 92 0) 0 96 ∷ paged (set large 60 0) 1 64 ∷ paged (set large 76 0) 1 64 ∷ [] gives 11 * 2 ^ 32
+    ∷ 11 * 2 ^ 32 ∷ 11 * 2 ^ 32 ∷ [])
     -- check 13: of a book of no sheets, of two; compared whole; before 4
-    ∷ (paged (1 ∷ 0 ∷ 0 ∷ 0 ∷ []) 0 32 ∷ paged large 2 32 ∷ paged large 2 64 ∷ paged large 3 0 ∷ paged large (2 ^ 32) 96 ∷ paged large beyond 96 ∷ []
+    ∷ (paged (1 ∷ 0 ∷ 0 ∷ 0 ∷ []) 0 32 ∷ paged large 2 32 ∷ paged large 2 64 ∷ paged large 3 0 ∷ paged large (2 ^ 32) 96
+    ∷ paged large beyond 96 ∷ []
     gives replicate 6 (13 * 2 ^ 32))
     -- check 4: a byte too few, a byte too many, no heading, a line more, the length of the other
     -- sheet
-    ∷ (paged large 0 95 ∷ paged large 0 97 ∷ paged large 0 64 ∷ paged large 0 128 ∷ paged large 1 96 ∷ paged large 1 0 ∷ [] gives replicate 6 (4 * 2 ^ 32))
+    ∷ (paged large 0 95 ∷ paged large 0 97 ∷ paged large 0 64 ∷ paged large 0 128 ∷ paged large 1 96 ∷ paged large 1 0
+    ∷ [] gives replicate 6 (4 * 2 ^ 32))
     -- a refused call leaves the output as it was
-    ∷ (shown large 2 3 ++ shown (set large 92 0) 0 2 ++ shown large 1 1 gives 13 * 2 ^ 32 ∷ 0 ∷ 0 ∷ 0 ∷ 11 * 2 ^ 32 ∷ 0 ∷ 0 ∷ 4 * 2 ^ 32 ∷ 0 ∷ [])
+    ∷ (shown large 2 3 ++ shown (set large 92 0) 0 2 ++ shown large 1 1 gives 13 * 2 ^ 32 ∷ 0 ∷ 0 ∷ 0 ∷ 11 * 2 ^ 32 ∷ 0
+    ∷ 0 ∷ 4 * 2 ^ 32 ∷ 0 ∷ [])
     ∷ []
 
 pub pageCheckCases-hold : AllHold pageCheckCases
-unfolding pageCheckCases rising allSame fromDigits toDigits answer after judged outputCheck number pieces replicates entryHolds entriesHold plotHolds recordHolds allRecordsHold recordCount formChecks sheetsHold recordsCheck sheetCheck pageChecks pageCall
+unfolding pageCheckCases rising allSame fromDigits toDigits answer after judged outputCheck number pieces replicates
+    entryHolds entriesHold plotHolds recordHolds allRecordsHold recordCount formChecks sheetsHold recordsCheck
+    sheetCheck pageChecks pageCall
 pageCheckCases-hold = computed pageCheckCases refl

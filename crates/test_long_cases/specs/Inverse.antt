@@ -15,4 +15,5 @@ inverted = tt
 
 pub inverse-right : (x : ℕ) → x < 256 → (x ≡ 0 → ⊥) → product x (inverse x) ≡ 1
 inverse-right x h nonzero =
-    agree (λ x. product x (inverse x)) (λ x. choose (eqb x 0) 0 1) 256 inverted x h ∙ ap (λ (b : Bool). choose b 0 1) (ne-eqb x 0 nonzero)
+    agree (λ x. product x (inverse x)) (λ x. choose (eqb x 0) 0 1) 256 inverted x h
+    ∙ ap (λ (b : Bool). choose b 0 1) (ne-eqb x 0 nonzero)

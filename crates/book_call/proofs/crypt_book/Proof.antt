@@ -17,7 +17,9 @@ sized k = k .before .before .before .before
 
 answered : (k : tie.After-known-told) →
     let s : tie.Start = start (sized k) in
-    Accepted (k .before .checked .given .0 .0) ≡ bookAnswer (kindOf (s .args .decrypting)) (clearBody (s .args .decrypting) (s .args .expanded .now)) (s .args .book .now)
+    Accepted (k .before .checked .given .0 .0)
+    ≡ bookAnswer (kindOf (s .args .decrypting)) (clearBody (s .args .decrypting) (s .args .expanded .now))
+    (s .args .book .now)
 answered k = sym (k .before .checked .given .1) ∙ k .before .before .before .check-book .ensures
 
 returns : tie.Need-returns
@@ -38,13 +40,19 @@ returns-2 : tie.Need-returns-2
 returns-2 c =
     let b : tie.After-check-book = c .before .before in
     let s : tie.Start = start (b .before) in
-    wrong-book (s .args .decrypting) (s .args .expanded .now) (s .args .book .now) (s .args .out .now) (b .before .if1 .left) (b .check-book .ensures) (c .enum-told .given .1)
+    wrong-book (s .args .decrypting) (s .args .expanded .now) (s .args .book .now) (s .args .out .now)
+    (b .before .if1 .left) (b .check-book .ensures) (c .enum-told .given .1)
 
 write-book-requires : tie.Need-write-book-requires
 write-book-requires c κs =
     let k : tie.After-known-told = c .before in
-    let t : tie.Start = start (sized k) in
-    (t .pre, (checked-formed (t .args .decrypting) (t .args .expanded .now) _ (t .args .out .now) (sized k .if1 .left) (answered k), sized k .if1 .left))
+    let t : tie.Start = start (sized k) in (
+      t .pre,
+      (
+        checked-formed (t .args .decrypting) (t .args .expanded .now) _ (t .args .out .now) (sized k .if1 .left) (answered k),
+        sized k .if1 .left,
+      ),
+    )
 
 same-length : tie.Need-same-length
 same-length c = search needs
@@ -54,7 +62,8 @@ returns-3 c =
     let b : tie.After-write-book = c .before .before in
     let k : tie.After-known-told = b .before .before in
     let s : tie.Start = start (sized k) in
-    rw (b .write-book .ensures) (right-book (s .args .decrypting) (s .args .expanded .now) (s .args .book .now) (s .args .out .now) (sized k .if1 .left) (answered k))
+    rw (b .write-book .ensures) (right-book (s .args .decrypting) (s .args .expanded .now) (s .args .book .now)
+    (s .args .out .now) (sized k .if1 .left) (answered k))
 
 pub crypt-book-spec : {M : Type 1} → statement M
 crypt-book-spec =

@@ -10,7 +10,8 @@ returns c =
     let r : tie.After-crypt-bodies = c .before .before in
     let f : tie.After-copy-front = r .before .before .before .before in
     let m : tie.After-kind = f .before .before in
-    r .crypt-bodies .ensures ∙ mapBodies-whole _ _ (m .before .before .before .before .pre .1 .0) (rw (m .kind .ensures) at (f .copy-front .ensures))
+    r .crypt-bodies .ensures ∙ mapBodies-whole _ _ (m .before .before .before .before .pre .1 .0)
+    (rw (m .kind .ensures) at (f .copy-front .ensures))
 
 pub write-book-spec : {M : Type 1} → statement M
 write-book-spec =

@@ -10,7 +10,8 @@ use Rattle.book_form.specs.BookAnswer.{form-stopped, form-formed, by-records}
 use Rattle.book_check_clear.proofs.check_clear_book.Statement.{statement}
 use Rattle.book_check_clear.proofs.check_clear_book.Tie as tie
 
-answered : (k : tie.After-known-told) → Accepted (k .before .form .given .0 .0) ≡ formAnswer 1 (k .before .before .before .before .before .args .book .now)
+answered : (k : tie.After-known-told) → Accepted (k .before .form .given .0 .0)
+    ≡ formAnswer 1 (k .before .before .before .before .before .args .book .now)
 answered k = sym (k .before .form .given .1) ∙ k .before .before .before .check-form .ensures
 
 returns : tie.Need-returns
@@ -21,13 +22,16 @@ clear-records-hold-requires c κs = form-formed 1 asItIs _ (answered c)
 
 returns-2 : tie.Need-returns-2
 unfolding judged
-returns-2 c = by-records 1 asItIs _ (answered (c .before .before)) (sym (c .before .clear-records-hold .ensures) ∙ not-true _ (c .if1 .taken))
+returns-2 c = by-records 1 asItIs _ (answered (c .before .before))
+    (sym (c .before .clear-records-hold .ensures) ∙ not-true _ (c .if1 .taken))
 
 returns-3 : tie.Need-returns-3
 unfolding judged
-returns-3 c = by-records 1 asItIs _ (answered (c .before .before)) (sym (c .before .clear-records-hold .ensures) ∙ not-false _ (c .if1 .left))
+returns-3 c = by-records 1 asItIs _ (answered (c .before .before))
+    (sym (c .before .clear-records-hold .ensures) ∙ not-false _ (c .if1 .left))
 
 pub check-clear-book-spec : {M : Type 1} → statement M
 check-clear-book-spec =
     tie.close
-    (tie.spec (λ c κs. search needs) (λ c. search needs) (λ c. search needs) returns clear-records-hold-requires returns-2 returns-3)
+    (tie.spec (λ c κs. search needs) (λ c. search needs)
+    (λ c. search needs) returns clear-records-hold-requires returns-2 returns-3)

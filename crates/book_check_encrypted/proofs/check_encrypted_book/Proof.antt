@@ -11,7 +11,8 @@ use Rattle.book_form.specs.BookAnswer.{form-stopped, form-formed, by-records}
 use Rattle.book_check_encrypted.proofs.check_encrypted_book.Statement.{statement}
 use Rattle.book_check_encrypted.proofs.check_encrypted_book.Tie as tie
 
-answered : (k : tie.After-known-told) → Accepted (k .before .form .given .0 .0) ≡ formAnswer 2 (k .before .before .before .before .before .before .args .book .now)
+answered : (k : tie.After-known-told) → Accepted (k .before .form .given .0 .0)
+    ≡ formAnswer 2 (k .before .before .before .before .before .before .args .book .now)
 answered k = sym (k .before .form .given .1) ∙ k .before .before .before .check-form .ensures
 
 returns : tie.Need-returns
@@ -24,13 +25,16 @@ decrypted-records-hold-requires c κs =
 
 returns-2 : tie.Need-returns-2
 unfolding judged
-returns-2 c = by-records 2 _ _ (answered (c .before .before)) (sym (c .before .decrypted-records-hold .ensures) ∙ not-true _ (c .if1 .taken))
+returns-2 c = by-records 2 _ _ (answered (c .before .before))
+    (sym (c .before .decrypted-records-hold .ensures) ∙ not-true _ (c .if1 .taken))
 
 returns-3 : tie.Need-returns-3
 unfolding judged
-returns-3 c = by-records 2 _ _ (answered (c .before .before)) (sym (c .before .decrypted-records-hold .ensures) ∙ not-false _ (c .if1 .left))
+returns-3 c = by-records 2 _ _ (answered (c .before .before))
+    (sym (c .before .decrypted-records-hold .ensures) ∙ not-false _ (c .if1 .left))
 
 pub check-encrypted-book-spec : {M : Type 1} → statement M
 check-encrypted-book-spec =
     tie.close
-    (tie.spec (λ c κs. search needs) (λ c. search needs) (λ c. search needs) returns decrypted-records-hold-requires returns-2 returns-3)
+    (tie.spec (λ c κs. search needs) (λ c. search needs)
+    (λ c. search needs) returns decrypted-records-hold-requires returns-2 returns-3)

@@ -12,9 +12,13 @@ returns-2 : tie.Need-returns-2
 returns-2 c =
     let s : tie.Start = c .before .before .before .before .before .before .before .before in
     rw (c .before .before .u16-at .ensures, c .before .new .ensures)
-    (chain-start (s .args .decrypting) (s .args .expanded .now) (s .args .body .now) (below-all (s .args .entry .now) (λ j k. c .before .before .before .before .before .before .shared-slice-known2 .given j .fits)) (s .pre .1 .0) (s .pre .1 .1 .1))
+    (chain-start (s .args .decrypting) (s .args .expanded .now) (s .args .body .now)
+    (below-all (s .args .entry .now)
+    (λ j k. c .before .before .before .before .before .before .shared-slice-known2 .given j .fits))
+    (s .pre .1 .0) (s .pre .1 .1 .1))
 
 pub begin-spec : {M : Type 1} → statement M
 begin-spec =
     tie.close
-    (tie.spec (λ c κs. search needs) (λ c κs. search needs) (λ c. search needs) returns (λ c κs. search needs) (λ c κs. search needs) returns-2)
+    (tie.spec (λ c κs. search needs) (λ c κs. search needs) (λ c. search needs) returns (λ c κs. search needs)
+    (λ c κs. search needs) returns-2)

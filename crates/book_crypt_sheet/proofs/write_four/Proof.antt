@@ -12,25 +12,48 @@ use Rattle.book_crypt_sheet.proofs.write_four.Tie as tie
 
 write-clear-requires-4 : tie.Need-write-clear-requires-4
 write-clear-requires-4 c κs =
-    let s : tie.Start = c .before .before .before .before .before .before .before .before .before .before .before .before .before .before .before .before .before .before .before .before .before in
-    (omega (arith, s .pre .1 .0), omega (arith, s .pre .1 .1, c .before .before .out3 .given, c .before .before .before .before .before .before .out2 .given, c .before .before .before .before .before .before .before .before .before .before .out .given))
+    let s : tie.Start = c .before .before .before .before .before .before .before .before .before .before .before
+    .before .before .before .before .before .before .before .before .before .before in (
+      omega (arith, s .pre .1 .0),
+      omega (
+        arith,
+        s .pre .1 .1,
+        c .before .before .out3 .given,
+        c .before .before .before .before .before .before .out2 .given,
+        c .before .before .before .before .before .before .before .before .before .before .out .given,
+      ),
+    )
 
 returns : tie.Need-returns
 returns c e left size k h =
-    let s : tie.Start = c .before .before .before .before .before .before .before .before .before .before .before .before .before .before .before .before .before .before .before .before .before .before .before .before in
+    let s : tie.Start = c .before .before .before .before .before .before .before .before .before .before .before
+    .before .before .before .before .before .before .before .before .before .before .before .before .before in
     let at = s .args .at in
-    let words : Below (2 ^ 32) (s .args .expanded .now) = below-all (s .args .expanded .now) (λ j i. c .before .before .before .before .before .before .before .before .before .before .before .before .before .before .before .before .before .before .before .before .before .before .before .shared-slice-known .given j .fits) in
-    let bytes : Below 256 (s .args .body .now) = below-all (s .args .body .now) (λ j i. c .before .before .before .before .before .before .before .before .before .before .before .before .before .before .before .before .before .before .before .before .before .before .shared-slice-known2 .given j .fits) in
-    let d : tie.After-decrypt-four = c .before .before .before .before .before .before .before .before .before .before .before .before .before .before .before .before .before .before .before .before in
+    let words : Below (2 ^ 32) (s .args .expanded .now) =
+    below-all (s .args .expanded .now)
+    (λ j i. c .before .before .before .before .before .before .before .before .before .before .before .before
+    .before .before .before .before .before .before .before .before .before .before .before
+    .shared-slice-known .given j .fits) in
+    let bytes : Below 256 (s .args .body .now) =
+    below-all (s .args .body .now)
+    (λ j i. c .before .before .before .before .before .before .before .before .before .before .before .before
+    .before .before .before .before .before .before .before .before .before .before .shared-slice-known2
+    .given j .fits) in
+    let d : tie.After-decrypt-four = c .before .before .before .before .before .before .before .before .before .before
+    .before .before .before .before .before .before .before .before .before .before in
     let p : at + 64 ≡ at + 16 + 16 + 16 + 16 = omega arith in
     let n : left - 4 ≡ left - 1 - 1 - 1 - 1 = omega arith in
     rw (p, n)
     (written-turn words bytes size
     (written-turn words bytes size
     (written-turn words bytes size
-    (written-turn words bytes size k (omega arith) (ap (λ (x : FourStates). x .a) (d .decrypt-four .ensures)) (c .before .before .before .before .before .before .before .before .before .before .before .before .before .before .write-clear .ensures))
-    (omega arith) (ap (λ (x : FourStates). x .b) (d .decrypt-four .ensures)) (c .before .before .before .before .before .before .before .before .before .before .write-clear2 .ensures))
-    (omega arith) (ap (λ (x : FourStates). x .c) (d .decrypt-four .ensures)) (c .before .before .before .before .before .before .write-clear3 .ensures))
+    (written-turn words bytes size k (omega arith) (ap (λ (x : FourStates). x .a) (d .decrypt-four .ensures))
+    (c .before .before .before .before .before .before .before .before .before .before .before .before .before
+    .before .write-clear .ensures))
+    (omega arith) (ap (λ (x : FourStates). x .b) (d .decrypt-four .ensures))
+    (c .before .before .before .before .before .before .before .before .before .before .write-clear2 .ensures))
+    (omega arith) (ap (λ (x : FourStates). x .c) (d .decrypt-four .ensures))
+    (c .before .before .before .before .before .before .write-clear3 .ensures))
     (omega arith) (ap (λ (x : FourStates). x .d) (d .decrypt-four .ensures)) (c .before .before .write-clear4 .ensures))
 
 pub write-four-spec : {M : Type 1} → statement M

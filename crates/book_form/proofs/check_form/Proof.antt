@@ -12,13 +12,15 @@ returns : tie.Need-returns
 returns c = form-stopped _ _ (c .before .before .check-head .ensures) (c .enum-told .given .1)
 
 check-contents-requires : tie.Need-check-contents-requires
-check-contents-requires c κs = head-formed _ _ (sym (c .before .head .given .1) ∙ c .before .before .before .check-head .ensures)
+check-contents-requires c κs = head-formed _ _
+    (sym (c .before .head .given .1) ∙ c .before .before .before .check-head .ensures)
 
 returns-2 : tie.Need-returns-2
 returns-2 c =
     let a : tie.After-known-told = c .before in
     form-passed (a .before .before .before .before .before .args .kind) _
-    (went (take 4 (formChecks _ _)) (sheetCount _) (sym (a .before .head .given .1) ∙ a .before .before .before .check-head .ensures) .checks)
+    (went (take 4 (formChecks _ _)) (sheetCount _)
+    (sym (a .before .head .given .1) ∙ a .before .before .before .check-head .ensures) .checks)
     (c .check-contents .ensures)
 
 pub check-form-spec : {M : Type 1} → statement M

@@ -21,7 +21,9 @@ book c = c .before .before .before .args .book .now
 five : (c : tie.Else1) → (leb 4 (length (book c)) && leb (length (book c)) 65532) ≡ true
 five c = sym (c .before .sized .ensures) ∙ not-false _ (c .if1 .left)
 
-six : (c : tie.Else2) → (eqb (getD (book (c .before .before)) 0 0) (c .before .before .before .before .before .args .kind) && eqb (getD (book (c .before .before)) 1 0) 0) ≡ true
+six : (c : tie.Else2)
+    → (eqb (getD (book (c .before .before)) 0 0) (c .before .before .before .before .before .args .kind) && eqb
+    (getD (book (c .before .before)) 1 0) 0) ≡ true
 six c = sym (c .before .headed .ensures) ∙ not-false _ (c .if2 .left)
 
 long : (c : tie.Else1) → 4 ≤ length (book c)
@@ -43,22 +45,40 @@ u16-at-requires c κs = let l : 4 ≤ length (book (c .before .before)) = long (
 
 returns-3 : tie.Need-returns-3
 unfolding formChecks judged
-returns-3 c = rw (five (c .before .before .before .before), six (c .before .before), ← c .before .u16-at .ensures, lt-leb _ _ (c .if3 .taken))
+returns-3 c = rw (
+  five (c .before .before .before .before),
+  six (c .before .before),
+  ← c .before .u16-at .ensures,
+  lt-leb _ _ (c .if3 .taken),
+)
 
 returns-4 : tie.Need-returns-4
 unfolding formChecks judged
 returns-4 c =
     let h : tie.After-u16-at = c .before .before in
-    rw (five (h .before .before .before), six (h .before), ← h .u16-at .ensures, le-leb _ _ (c .before .if3 .left), lt-leb _ _ (c .if4 .taken))
+    rw (
+      five (h .before .before .before),
+      six (h .before),
+      ← h .u16-at .ensures,
+      le-leb _ _ (c .before .if3 .left),
+      lt-leb _ _ (c .if4 .taken),
+    )
 
 returns-5 : tie.Need-returns-5
 unfolding formChecks judged
 returns-5 c =
     let h : tie.After-u16-at = c .before .before in
-    rw (five (h .before .before .before), six (h .before), ← h .u16-at .ensures, le-leb _ _ (c .before .if3 .left), le-leb _ _ (c .if4 .left))
+    rw (
+      five (h .before .before .before),
+      six (h .before),
+      ← h .u16-at .ensures,
+      le-leb _ _ (c .before .if3 .left),
+      le-leb _ _ (c .if4 .left),
+    )
 
 pub check-head-spec : {M : Type 1} → statement M
 check-head-spec =
     tie.close
-    (tie.spec (λ c κs. search needs) returns headed-requires returns-2 u16-at-requires returns-3 (λ c. search needs) (λ c. search needs) returns-4
+    (tie.spec (λ c κs. search needs) returns headed-requires returns-2 u16-at-requires returns-3 (λ c. search needs)
+    (λ c. search needs) returns-4
     returns-5)

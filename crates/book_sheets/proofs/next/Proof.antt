@@ -10,12 +10,14 @@ use Rattle.book_sheets.specs.Cursors.{entryAt, at-next}
 use Rattle.book_sheets.proofs.next.Statement.{statement}
 use Rattle.book_sheets.proofs.next.Tie as tie
 
-counted : (c : tie.After-u16-at) → c .u16-at .result ≡ count (entryAt (c .before .before .args .book .now) (c .before .before .args .cursor))
+counted : (c : tie.After-u16-at) → c .u16-at .result
+    ≡ count (entryAt (c .before .before .args .book .now) (c .before .before .args .cursor))
 counted c =
     let s : tie.Start = c .before .before in
     c .u16-at .ensures ∙ sym (number-piece 4 2 24 (s .args .cursor .from) (s .args .book .now) (omega arith))
 
-fits : (c : tie.After-u16-at) → c .before .before .args .cursor .at + 16 * c .u16-at .result ≤ length (c .before .before .args .book .now)
+fits : (c : tie.After-u16-at) → c .before .before .args .cursor .at + 16 * c .u16-at .result
+    ≤ length (c .before .before .args .book .now)
 fits c = let s : tie.Start = c .before .before in rw (counted c) (at-next (s .pre .0) (s .pre .1) refl .body-fits)
 
 mul-t7 : tie.Need-mul-t7

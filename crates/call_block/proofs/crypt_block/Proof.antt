@@ -15,7 +15,8 @@ returns c = answered-refused _ (judged-false (ne-eqb _ _ (c .if1 .taken)) 3 _ _)
 
 returns-2 : tie.Need-returns-2
 unfolding blockUnder blockChecks blockCheck outputCheck
-returns-2 c = answered-refused _ (judged-true (eq-eqb _ _ (c .before .if1 .left)) 3 _ _ ∙ judged-false (ne-eqb _ _ (c .if2 .taken)) 4 _ _)
+returns-2 c = answered-refused _ (judged-true (eq-eqb _ _ (c .before .if1 .left)) 3 _ _
+    ∙ judged-false (ne-eqb _ _ (c .if2 .taken)) 4 _ _)
 
 returns-3 : tie.Need-returns-3
 unfolding blockUnder blockChecks blockCheck outputCheck
@@ -23,7 +24,8 @@ returns-3 c =
     let b : tie.After-decrypt-block = c .before .before in
     let t : tie.Then3 = b .before .before in
     answered-accepted _ _
-    (judged-true (eq-eqb _ _ (t .before .before .if1 .left)) 3 _ _ ∙ judged-true (eq-eqb _ _ (t .before .if2 .left)) 4 _ _ ∙ judged-pass none _)
+    (judged-true (eq-eqb _ _ (t .before .before .if1 .left)) 3 _ _
+    ∙ judged-true (eq-eqb _ _ (t .before .if2 .left)) 4 _ _ ∙ judged-pass none _)
     (decrypted _ _ (t .if3 .taken) (b .decrypt-block .ensures))
 
 returns-4 : tie.Need-returns-4
@@ -32,10 +34,12 @@ returns-4 c =
     let b : tie.After-encrypt-block = c .before .before in
     let t : tie.Else3 = b .before .before in
     answered-accepted _ _
-    (judged-true (eq-eqb _ _ (t .before .before .if1 .left)) 3 _ _ ∙ judged-true (eq-eqb _ _ (t .before .if2 .left)) 4 _ _ ∙ judged-pass none _)
+    (judged-true (eq-eqb _ _ (t .before .before .if1 .left)) 3 _ _
+    ∙ judged-true (eq-eqb _ _ (t .before .if2 .left)) 4 _ _ ∙ judged-pass none _)
     (encrypted _ _ (t .if3 .left) (b .encrypt-block .ensures))
 
 pub crypt-block-spec : {M : Type 1} → statement M
 crypt-block-spec =
     tie.close
-    (tie.spec returns returns-2 (λ c κs. search needs) (λ c. search needs) returns-3 (λ c κs. search needs) (λ c. search needs) returns-4)
+    (tie.spec returns returns-2 (λ c κs. search needs) (λ c. search needs) returns-3 (λ c κs. search needs)
+    (λ c. search needs) returns-4)

@@ -1,4 +1,5 @@
--- `call_checks::one_of` meets its contract: the tests that led to each answer decide the definition.
+-- `call_checks::one_of` meets its contract: the tests that led to each answer decide the
+-- definition.
 use borrow.Author.Tests.{eq-eqb, ne-eqb}
 use Rattle.call_checks.proofs.one_of.Statement.{statement}
 use Rattle.call_checks.proofs.one_of.Tie as tie

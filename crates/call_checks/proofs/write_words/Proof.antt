@@ -15,7 +15,8 @@ returns c = answered-refused _ (judged-false (ne-eqb _ _ (c .if1 .taken)) 4 [] _
 
 returns-2 : tie.Need-returns-2
 unfolding outputCheck judged
-returns-2 c = answered-accepted _ _ (judged-true (eq-eqb _ _ (c .before .before .before .before .if1 .left)) 4 [] _) (c .before .before .store-all .ensures)
+returns-2 c = answered-accepted _ _ (judged-true (eq-eqb _ _ (c .before .before .before .before .if1 .left)) 4 [] _)
+    (c .before .before .store-all .ensures)
 
 pub write-words-spec : {M : Type 1} → statement M
 write-words-spec =

@@ -31,14 +31,16 @@ slice-aggregate-write-by c = sym (length-take-le _ _ (fits (c .before .before .b
 
 write-by-requires : tie.Need-write-by-requires
 write-by-requires c κs =
-    let k : tie.After-known-told = c .before .before .before .before in (passed k .long, length-take-le _ _ (fits k) ∙ passed k .count)
+    let k : tie.After-known-told = c .before .before .before .before in
+    (passed k .long, length-take-le _ _ (fits k) ∙ passed k .count)
 
 returns-3 : tie.Need-returns-3
 unfolding expandKeyCall expandedCall
 returns-3 c =
     let a : tie.After-write-by = c .before .before .before in
     let e : tie.Else1 = a .before .before .before in
-    way-passes _ _ _ _ _ (passed (e .before .before) .checks) (e .before .check-way .ensures) (e .if1 .left) (a .write-by .ensures)
+    way-passes _ _ _ _ _ (passed (e .before .before) .checks) (e .before .check-way .ensures) (e .if1 .left)
+    (a .write-by .ensures)
 
 pub expand-key-spec : {M : Type 1} → statement M
 expand-key-spec =

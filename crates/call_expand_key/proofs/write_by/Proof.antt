@@ -1,4 +1,4 @@
--- `call_expand_key::write_by` meets its contract: what is lent is a kind of tables, or none.
+-- `call_expand_key::write_by` meets its contract: one kind of tables is passed, or none.
 use borrow.Author.Needs.{needs}
 use Rattle.cipher_ffunction.specs.Tables.{valid-word-tables, valid-byte-tables, valid-no-tables}
 use Rattle.call_expand_key.proofs.write_by.Statement.{statement}
@@ -16,7 +16,10 @@ write-expanded-requires-3 c κs = (valid-no-tables, search needs)
 pub write-by-spec : {M : Type 1} → statement M
 write-by-spec =
     tie.close
-    (tie.spec (λ c κs. search needs) (λ c. search needs) (λ c. search needs) write-expanded-requires (λ c. search needs) (λ c. search needs)
-    (λ c. search needs) (λ c. search needs) (λ c κs. search needs) (λ c. search needs) write-expanded-requires-2 (λ c. search needs)
-    (λ c. search needs) (λ c. search needs) (λ c. search needs) (λ c. search needs) write-expanded-requires-3 (λ c. search needs) (λ c. search needs)
+    (tie.spec (λ c κs. search needs) (λ c. search needs) (λ c. search needs) write-expanded-requires (λ c. search needs)
+    (λ c. search needs)
+    (λ c. search needs) (λ c. search needs) (λ c κs. search needs) (λ c. search needs) write-expanded-requires-2
+    (λ c. search needs)
+    (λ c. search needs) (λ c. search needs) (λ c. search needs) (λ c. search needs) write-expanded-requires-3
+    (λ c. search needs) (λ c. search needs)
     (λ c. search needs))

@@ -40,10 +40,13 @@ unfolding taskCall judged
 returns-3 c =
     let a : tie.After-perform-by = c .before .before .before in
     let e : tie.Else1 = a .before .before .before in
-    way-passes _ _ [] _ _ (passed (e .before .before) .checks) (e .before .check-way .ensures) (e .if1 .left) (a .perform-by .ensures)
+    way-passes _ _ [] _ _ (passed (e .before .before) .checks) (e .before .check-way .ensures) (e .if1 .left)
+    (a .perform-by .ensures)
 
 pub call-spec : {M : Type 1} → statement M
 call-spec =
     tie.close
-    (tie.spec (λ c κs. search needs) (λ c. search needs) (λ c. search needs) returns (λ c κs. search needs) returns-2 array-borrow-prefix-expanded slice-aggregate-perform-by
+    (tie.spec (λ c κs. search needs) (λ c. search needs)
+    (λ c. search needs) returns (λ c κs. search needs) returns-2 array-borrow-prefix-expanded
+    slice-aggregate-perform-by
     perform-by-requires (λ c. search needs) returns-3)

@@ -1,4 +1,5 @@
--- `call_with_words::perform_by` meets its contract: the words are read, and what is lent is a kind of tables, or none.
+-- `call_with_words::perform_by` meets its contract: the words are read, and one kind of tables is
+-- passed, or none.
 use borrow.Author.Needs.{needs}
 use Rattle.cipher_ffunction.specs.Tables.{valid-word-tables, valid-byte-tables, valid-no-tables}
 use Rattle.call_with_words.specs.CallLaws.{answered-read}
@@ -38,6 +39,8 @@ returns-3 c =
 pub perform-by-spec : {M : Type 1} → statement M
 perform-by-spec =
     tie.close
-    (tie.spec (λ c κs. search needs) (λ c κs. search needs) (λ c. search needs) (λ c. search needs) perform-requires (λ c. search needs) (λ c. search needs) returns
-    (λ c. search needs) (λ c κs. search needs) (λ c. search needs) perform-requires-2 (λ c. search needs) (λ c. search needs) returns-2 (λ c. search needs)
+    (tie.spec (λ c κs. search needs) (λ c κs. search needs) (λ c. search needs) (λ c. search needs) perform-requires
+    (λ c. search needs) (λ c. search needs) returns
+    (λ c. search needs) (λ c κs. search needs) (λ c. search needs) perform-requires-2 (λ c. search needs)
+    (λ c. search needs) returns-2 (λ c. search needs)
     (λ c. search needs) perform-requires-3 (λ c. search needs) (λ c. search needs) returns-3)

@@ -16,7 +16,15 @@ returns c =
     let a : tie.Start = w1 .before .before .before .before in
     record {
       read =
-          rw (c .before .before .before .before .before .before .before .before .before .before .before .before .before .before .before .word .ensures, c .before .before .before .before .before .before .before .before .before .before .word2 .ensures, c .before .before .before .before .before .word3 .ensures, c .word4 .ensures) (sym (four-words (a .args .src .now) (a .args .from)));
+          rw (
+            c .before .before .before .before .before .before .before .before .before .before .before .before .before
+                .before .before .word .ensures,
+            c .before .before .before .before .before .before .before .before .before
+                .before .word2 .ensures,
+            c .before .before .before .before .before .word3 .ensures,
+            c .word4 .ensures,
+          )
+          (sym (four-words (a .args .src .now) (a .args .from)));
       written =
           rw (
             w4 .put-word4 .ensures,
@@ -31,6 +39,8 @@ returns c =
 pub exchange-spec : {M : Type 1} → statement M
 exchange-spec =
     tie.close
-    (tie.spec (λ c. search needs) (λ c κs. search needs) (λ c κs. search needs) (λ c. search needs) (λ c κs. search needs)
-    (λ c. search needs) (λ c κs. search needs) (λ c. search needs) (λ c κs. search needs) (λ c. search needs) (λ c κs. search needs)
+    (tie.spec (λ c. search needs) (λ c κs. search needs) (λ c κs. search needs) (λ c. search needs)
+    (λ c κs. search needs)
+    (λ c. search needs) (λ c κs. search needs) (λ c. search needs) (λ c κs. search needs) (λ c. search needs)
+    (λ c κs. search needs)
     (λ c. search needs) (λ c κs. search needs) (λ c. search needs) (λ c κs. search needs) (λ c. search needs) returns)

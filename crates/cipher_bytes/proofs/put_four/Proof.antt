@@ -22,6 +22,8 @@ returns c = rw (spell 4 (c .args .t3) (c .good .1 .1 .0 .1 .0 .1)) (four-stores 
 pub put-four-spec : {M : Type 1} → statement M
 put-four-spec =
     tie.close
-    (tie.spec (λ c. search needs) (λ c. search needs) (λ c. search needs) (λ c. search needs) (λ c. search needs) (λ c. search needs)
-    slice-write-dst-2 (λ c. search needs) (λ c. search needs) (λ c. search needs) slice-write-dst-3 (λ c. search needs) (λ c. search needs)
+    (tie.spec (λ c. search needs) (λ c. search needs) (λ c. search needs) (λ c. search needs) (λ c. search needs)
+    (λ c. search needs)
+    slice-write-dst-2 (λ c. search needs) (λ c. search needs) (λ c. search needs) slice-write-dst-3 (λ c. search needs)
+    (λ c. search needs)
     (λ c. search needs) slice-write-dst-4 (λ c. search needs) returns)

@@ -24,5 +24,7 @@ returns c = rw div-one (four-stores _ _ _ _ _ _ (search needs))
 pub put-word-spec : {M : Type 1} → statement M
 put-word-spec =
     tie.close
-    (tie.spec (λ c. search needs) (λ c. search needs) (λ c. search needs) (λ c. search needs) slice-write-dst-2 (λ c. search needs)
-    (λ c. search needs) slice-write-dst-3 (λ c. search needs) (λ c. search needs) slice-write-dst-4 (λ c. search needs) returns)
+    (tie.spec (λ c. search needs) (λ c. search needs) (λ c. search needs) (λ c. search needs) slice-write-dst-2
+    (λ c. search needs)
+    (λ c. search needs) slice-write-dst-3 (λ c. search needs) (λ c. search needs) slice-write-dst-4
+    (λ c. search needs) returns)

@@ -15,7 +15,8 @@ use Rattle.cipher_bytes.proofs.store_all.Statement.{statement}
 use Rattle.cipher_bytes.proofs.store_all.Tie as tie
 
 abbrev Inv-loop : tie.InvT-loop
-Inv-loop dst₀ src i₀ dst i = (length dst ≡ length dst₀) × (i ≤ length src) × (take (4 * i) dst ++ bytesOf (drop i src) ≡ bytesOf src)
+Inv-loop dst₀ src i₀ dst i = (length dst ≡ length dst₀) × (i ≤ length src)
+    × (take (4 * i) dst ++ bytesOf (drop i src) ≡ bytesOf src)
 
 abbrev μ-loop : tie.MeasureT-loop
 μ-loop dst₀ src i₀ dst i = length src - i
@@ -32,7 +33,9 @@ loop-again c =
     let e : 4 * (a .loop .i + 1) ≡ 4 * a .loop .i + 4 = omega arith in (
       rw (c .before .before .put-word .ensures, length-putFour (a .loop .dst) _ _ refl h) (a .loop .inv .0),
       search needs,
-      rw (c .before .before .put-word .ensures, e) (fill-four (a .loop .dst) _ _ _ _ refl h (rw (bytes-step (s .args .src .now) (a .loop .i) (search needs)) at (a .loop .inv .2))),
+      rw (c .before .before .put-word .ensures, e)
+          (fill-four (a .loop .dst) _ _ _ _ refl h
+          (rw (bytes-step (s .args .src .now) (a .loop .i) (search needs)) at (a .loop .inv .2))),
     )
 
 returns : tie.Need-returns Inv-loop μ-loop
@@ -46,5 +49,6 @@ returns c =
 pub store-all-spec : {M : Type 1} → statement M
 store-all-spec =
     tie.close
-    (tie.spec Inv-loop μ-loop loop-holds (λ c. search needs) (λ c. search needs) (λ c. search needs) (λ c κs. search needs)
+    (tie.spec Inv-loop μ-loop loop-holds (λ c. search needs) (λ c. search needs) (λ c. search needs)
+    (λ c κs. search needs)
     (λ c. search needs) (λ c. search needs) loop-again (λ c. search needs) returns)

@@ -12,5 +12,6 @@ returns c = rw (spell 4 (c .args .t1) (c .good .0 .1 .0 .1), spell 4 (c .args .t
 pub xors4-spec : {M : Type 1} → statement M
 xors4-spec =
     tie.close
-    (tie.spec (λ c. search needs) (λ c. search needs) (λ c. search needs) (λ c. search needs) (λ c. search needs) (λ c. search needs)
+    (tie.spec (λ c. search needs) (λ c. search needs) (λ c. search needs) (λ c. search needs) (λ c. search needs)
+    (λ c. search needs)
     (λ c. search needs) (λ c. search needs) returns)

@@ -5,7 +5,10 @@ use Rattle.cipher_ffunction.proofs.f1.Statement.{statement}
 use Rattle.cipher_ffunction.proofs.f1.Tie as tie
 
 by-word-tables-requires : tie.Need-by-word-tables-requires
-by-word-tables-requires c κs = (search needs, c .before .before .pre .word-tables (c .before .has-word-tables .ensures (c .if1 .taken)))
+by-word-tables-requires c κs = (
+  search needs,
+  c .before .before .pre .word-tables (c .before .has-word-tables .ensures (c .if1 .taken)),
+)
 
 returns : tie.Need-returns
 returns c = rw (c .by-word-tables .ensures, mix-f1)

@@ -11,7 +11,8 @@ use Rattle.cipher_gf256.proofs.product.Statement.{statement}
 use Rattle.cipher_gf256.proofs.product.Tie as tie
 
 abbrev Inv-loop : tie.InvT-loop
-Inv-loop x y sum₀ shifted₀ bits₀ left₀ sum shifted bits left = (0 < bits) × (addProduct left sum shifted bits ≡ product x y)
+Inv-loop x y sum₀ shifted₀ bits₀ left₀ sum shifted bits left = (0 < bits)
+    × (addProduct left sum shifted bits ≡ product x y)
 
 abbrev μ-loop : tie.MeasureT-loop
 μ-loop x y sum₀ shifted₀ bits₀ left₀ sum shifted bits left = left
@@ -50,4 +51,5 @@ returns-3 c =
 pub product-spec : {M : Type 1} → statement M
 product-spec =
     tie.close
-    (tie.spec Inv-loop μ-loop returns loop-holds (λ c κs. search needs) returns-2 (λ c κs. search needs) (λ c. omega arith) (λ c. omega arith) loop-again returns-3)
+    (tie.spec Inv-loop μ-loop returns loop-holds (λ c κs. search needs) returns-2 (λ c κs. search needs)
+    (λ c. omega arith) (λ c. omega arith) loop-again returns-3)

@@ -66,6 +66,8 @@ returns-3 c =
 pub expand-key-spec : {M : Type 1} → statement M
 expand-key-spec =
     tie.close
-    (tie.spec load-requires expand-short-requires (λ c κs. search needs) (λ c. search needs) (λ c κs. search needs) expand-long-requires
-    (λ c κs. search needs) (λ c. search needs) load-requires-2 expand-long-requires-2 (λ c. search needs) returns (λ c. search needs) returns-2
+    (tie.spec load-requires expand-short-requires (λ c κs. search needs) (λ c. search needs)
+    (λ c κs. search needs) expand-long-requires
+    (λ c κs. search needs) (λ c. search needs) load-requires-2 expand-long-requires-2 (λ c. search needs) returns
+    (λ c. search needs) returns-2
     (λ c. search needs) returns-3)

@@ -35,5 +35,6 @@ returns c =
 pub expand-long-spec : {M : Type 1} → statement M
 expand-long-spec =
     tie.close
-    (tie.spec (λ c κs. search needs) (λ c κs. search needs) (λ c κs. search needs) (λ c κs. search needs) (λ c κs. search needs)
+    (tie.spec (λ c κs. search needs) (λ c κs. search needs) (λ c κs. search needs) (λ c κs. search needs)
+    (λ c κs. search needs)
     (λ c κs. search needs) round-keys-requires (λ c. search needs) returns)

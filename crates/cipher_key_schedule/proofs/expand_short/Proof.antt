@@ -31,5 +31,6 @@ returns c =
 pub expand-short-spec : {M : Type 1} → statement M
 expand-short-spec =
     tie.close
-    (tie.spec (λ c κs. search needs) (λ c. search needs) (λ c κs. search needs) (λ c κs. search needs) (λ c. search needs)
+    (tie.spec (λ c κs. search needs) (λ c. search needs) (λ c κs. search needs) (λ c κs. search needs)
+    (λ c. search needs)
     round-keys-requires (λ c. search needs) returns)

@@ -10,7 +10,8 @@ use Rattle.cipher_network4.proofs.network4.Statement.{statement}
 use Rattle.cipher_network4.proofs.network4.Tie as tie
 
 abbrev Inv-loop : tie.InvT-loop
-Inv-loop word-tables byte-tables expanded n at t₀ left₀ i₀ t left i = (i + 2 * left ≤ length expanded) × (rounds 2 f0 f1 left expanded i t ≡ rounds 2 f0 f1 n expanded at t₀)
+Inv-loop word-tables byte-tables expanded n at t₀ left₀ i₀ t left i = (i + 2 * left ≤ length expanded)
+    × (rounds 2 f0 f1 left expanded i t ≡ rounds 2 f0 f1 n expanded at t₀)
 
 abbrev μ-loop : tie.MeasureT-loop
 μ-loop word-tables byte-tables expanded n at t₀ left₀ i₀ t left i = left
@@ -20,7 +21,12 @@ loop-again c =
     let a : tie.At-loop Inv-loop μ-loop = c .before .before .before .before .before in
     let h : 0 < a .loop .left = search needs in (
       search needs,
-      rw (c .rotate-left4 .ensures, c .before .feistel4 .ensures (a .before .before .args .expanded .now) (a .loop .i) refl refl, rounds-step 2 f0 f1) (a .loop .inv .1),
+      rw (
+        c .rotate-left4 .ensures,
+        c .before .feistel4 .ensures (a .before .before .args .expanded .now)
+            (a .loop .i) refl refl,
+        rounds-step 2 f0 f1,
+      ) (a .loop .inv .1),
     )
 
 returns : tie.Need-returns Inv-loop μ-loop
@@ -33,6 +39,8 @@ returns c =
 pub network4-spec : {M : Type 1} → statement M
 network4-spec =
     tie.close
-    (tie.spec Inv-loop μ-loop (λ c. search needs) (λ c. search needs) (λ c. search needs) (λ c. search needs) (λ c. search needs)
-    (λ c. search needs) (λ c κs. search needs) (λ c κs. search needs) (λ c. search needs) (λ c. search needs) (λ c. search needs) loop-again
+    (tie.spec Inv-loop μ-loop (λ c. search needs) (λ c. search needs) (λ c. search needs) (λ c. search needs)
+    (λ c. search needs)
+    (λ c. search needs) (λ c κs. search needs) (λ c κs. search needs) (λ c. search needs) (λ c. search needs)
+    (λ c. search needs) loop-again
     (λ c κs. search needs) returns)

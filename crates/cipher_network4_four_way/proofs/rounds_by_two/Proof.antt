@@ -10,7 +10,8 @@ use Rattle.cipher_network4_four_way.proofs.rounds_by_two.Statement.{sta
 use Rattle.cipher_network4_four_way.proofs.rounds_by_two.Tie as tie
 
 abbrev Inv-loop : tie.InvT-loop
-Inv-loop word-tables expanded n at t₀ left₀ i₀ t left i = (i + 4 * left ≤ length expanded) × (each (rounds 2 f0 f1 (2 * left) expanded i) t ≡ each (rounds 2 f0 f1 (2 * n) expanded at) t₀)
+Inv-loop word-tables expanded n at t₀ left₀ i₀ t left i = (i + 4 * left ≤ length expanded)
+    × (each (rounds 2 f0 f1 (2 * left) expanded i) t ≡ each (rounds 2 f0 f1 (2 * n) expanded at) t₀)
 
 abbrev μ-loop : tie.MeasureT-loop
 μ-loop word-tables expanded n at t₀ left₀ i₀ t left i = left
@@ -35,6 +36,9 @@ returns c =
 pub rounds-by-two-spec : {M : Type 1} → statement M
 rounds-by-two-spec =
     tie.close
-    (tie.spec Inv-loop μ-loop (λ c. search needs) (λ c. search needs) (λ c. search needs) (λ c. search needs) (λ c. search needs)
-    (λ c. search needs) (λ c. search needs) (λ c. search needs) (λ c. search needs) (λ c. search needs) (λ c. search needs)
-    (λ c. search needs) (λ c κs. search needs) (λ c. search needs) (λ c. search needs) (λ c. search needs) loop-again returns)
+    (tie.spec Inv-loop μ-loop (λ c. search needs) (λ c. search needs) (λ c. search needs) (λ c. search needs)
+    (λ c. search needs)
+    (λ c. search needs) (λ c. search needs) (λ c. search needs) (λ c. search needs) (λ c. search needs)
+    (λ c. search needs)
+    (λ c. search needs) (λ c κs. search needs) (λ c. search needs) (λ c. search needs)
+    (λ c. search needs) loop-again returns)

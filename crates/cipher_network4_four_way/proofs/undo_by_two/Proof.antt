@@ -9,7 +9,8 @@ use Rattle.cipher_network4_four_way.proofs.undo_by_two.Statement.{state
 use Rattle.cipher_network4_four_way.proofs.undo_by_two.Tie as tie
 
 abbrev Inv-loop : tie.InvT-loop
-Inv-loop word-tables expanded n at t₀ done₀ i₀ t done i = (done ≤ n) × (i + 4 * done ≡ at + 4 * n) × (t ≡ each (undoRounds 2 f0 f1 (2 * done) expanded i) t₀)
+Inv-loop word-tables expanded n at t₀ done₀ i₀ t done i = (done ≤ n) × (i + 4 * done ≡ at + 4 * n)
+    × (t ≡ each (undoRounds 2 f0 f1 (2 * done) expanded i) t₀)
 
 abbrev μ-loop : tie.MeasureT-loop
 μ-loop word-tables expanded n at t₀ done₀ i₀ t done i = n - done
@@ -25,8 +26,11 @@ loop-again c =
     let i : a .loop .first ≡ a .loop .first - 4 + 4 = search needs in (
       search needs,
       search needs,
-      c .undo-two-rounds .ensures w (a .loop .first - 4) (record { first = refl; second = refl; third = refl; fourth = refl })
-          ∙ rw (a .loop .inv .2) (each-same (λ s. two-more-undone (a .loop .done) w (a .loop .first - 4) (a .loop .first) s i) (a .before .before .args .s)),
+      c .undo-two-rounds .ensures w (a .loop .first - 4)
+          (record { first = refl; second = refl; third = refl; fourth = refl })
+          ∙ rw (a .loop .inv .2)
+          (each-same (λ s. two-more-undone (a .loop .done) w (a .loop .first - 4) (a .loop .first) s i)
+          (a .before .before .args .s)),
     )
 
 returns : tie.Need-returns Inv-loop μ-loop
@@ -39,7 +43,10 @@ returns c =
 pub undo-by-two-spec : {M : Type 1} → statement M
 undo-by-two-spec =
     tie.close
-    (tie.spec Inv-loop μ-loop (λ c. search needs) (λ c. search needs) loop-holds (λ c. search needs) (λ c. search needs) (λ c. search needs)
-    (λ c. search needs) (λ c. search needs) (λ c. search needs) (λ c. search needs) (λ c. search needs) (λ c. search needs)
-    (λ c. search needs) (λ c. search needs) (λ c. search needs) (λ c κs. search needs) (λ c. search needs) (λ c. search needs) loop-again
+    (tie.spec Inv-loop μ-loop (λ c. search needs) (λ c. search needs) loop-holds (λ c. search needs) (λ c. search needs)
+    (λ c. search needs)
+    (λ c. search needs) (λ c. search needs) (λ c. search needs) (λ c. search needs) (λ c. search needs)
+    (λ c. search needs)
+    (λ c. search needs) (λ c. search needs) (λ c. search needs) (λ c κs. search needs) (λ c. search needs)
+    (λ c. search needs) loop-again
     returns)

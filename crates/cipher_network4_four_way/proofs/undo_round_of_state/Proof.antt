@@ -10,10 +10,19 @@ returns : tie.Need-returns
 unfolding spelled feistel rotateBranches
 returns c w i p q =
     let a : tie.Start = c .before .before in
-    rw (c .before .by-word-tables .ensures, c .by-word-tables2 .ensures, mix-f0, mix-f1, p, q, spell 4 (a .args .t4) (a .good .1 .1 .1 .0 .1 .0 .1))
+    rw (
+      c .before .by-word-tables .ensures,
+      c .by-word-tables2 .ensures,
+      mix-f0,
+      mix-f1,
+      p,
+      q,
+      spell 4 (a .args .t4) (a .good .1 .1 .1 .0 .1 .0 .1),
+    )
 
 pub undo-round-of-state-spec : {M : Type 1} → statement M
 undo-round-of-state-spec =
     tie.close
-    (tie.spec (λ c. search needs) (λ c. search needs) (λ c κs. search needs) (λ c. search needs) (λ c. search needs) (λ c κs. search needs)
+    (tie.spec (λ c. search needs) (λ c. search needs) (λ c κs. search needs) (λ c. search needs) (λ c. search needs)
+    (λ c κs. search needs)
     (λ c. search needs) (λ c. search needs) returns)

@@ -10,7 +10,8 @@ use Rattle.cipher_network8.proofs.network8.Statement.{statement}
 use Rattle.cipher_network8.proofs.network8.Tie as tie
 
 abbrev Inv-loop : tie.InvT-loop
-Inv-loop word-tables byte-tables expanded n at t₀ left₀ i₀ t left i = (i + 4 * left ≤ length expanded) × (rounds 4 f0 f1 left expanded i t ≡ rounds 4 f0 f1 n expanded at t₀)
+Inv-loop word-tables byte-tables expanded n at t₀ left₀ i₀ t left i = (i + 4 * left ≤ length expanded)
+    × (rounds 4 f0 f1 left expanded i t ≡ rounds 4 f0 f1 n expanded at t₀)
 
 abbrev μ-loop : tie.MeasureT-loop
 μ-loop word-tables byte-tables expanded n at t₀ left₀ i₀ t left i = left
@@ -33,5 +34,6 @@ returns c =
 pub network8-spec : {M : Type 1} → statement M
 network8-spec =
     tie.close
-    (tie.spec Inv-loop μ-loop (λ c. search needs) (λ c κs. search needs) (λ c κs. search needs) (λ c. search needs) (λ c. search needs)
+    (tie.spec Inv-loop μ-loop (λ c. search needs) (λ c κs. search needs) (λ c κs. search needs) (λ c. search needs)
+    (λ c. search needs)
     (λ c. search needs) loop-again (λ c κs. search needs) returns)

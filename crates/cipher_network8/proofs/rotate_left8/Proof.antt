@@ -12,5 +12,6 @@ returns c = rw (spell 8 (c .args .t1) (c .good .0 .1 .0 .1))
 pub rotate-left8-spec : {M : Type 1} → statement M
 rotate-left8-spec =
     tie.close
-    (tie.spec (λ c. search needs) (λ c. search needs) (λ c. search needs) (λ c. search needs) (λ c. search needs) (λ c. search needs)
+    (tie.spec (λ c. search needs) (λ c. search needs) (λ c. search needs) (λ c. search needs) (λ c. search needs)
+    (λ c. search needs)
     (λ c. search needs) (λ c. search needs) returns)

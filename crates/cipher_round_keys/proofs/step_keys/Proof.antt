@@ -8,7 +8,12 @@ use Rattle.cipher_round_keys.proofs.step_keys.Tie as tie
 
 returns : tie.Need-returns
 unfolding stepKeys fourAt
-returns c = rw (c .xors42 .ensures, c .before .before .xors4 .ensures, c .before .before .before .four-at .ensures, eq-eqb _ _ (c .before .if1 .taken))
+returns c = rw (
+  c .xors42 .ensures,
+  c .before .before .xors4 .ensures,
+  c .before .before .before .four-at .ensures,
+  eq-eqb _ _ (c .before .if1 .taken),
+)
 
 returns-2 : tie.Need-returns-2
 unfolding stepKeys fourAt

@@ -13,7 +13,8 @@ use Rattle.note_blocks.proofs.add_part.Statement.{statement}
 use Rattle.note_blocks.proofs.add_part.Tie as tie
 
 abbrev Inv-loop : tie.InvT-loop
-Inv-loop part out₀ byte-tables i₀ out i = (i ≤ length part) × (length out ≡ length part) × (take i out ≡ take i (xors byte-tables part))
+Inv-loop part out₀ byte-tables i₀ out i = (i ≤ length part) × (length out ≡ length part)
+    × (take i out ≡ take i (xors byte-tables part))
 
 abbrev μ-loop : tie.MeasureT-loop
 μ-loop part out₀ byte-tables i₀ out i = length part - i
@@ -28,7 +29,9 @@ loop-again c =
     let k : a .loop .i < length bytes = search needs in (
       search needs,
       simp length-set (a .loop .inv .1),
-      rw (← getD-xors bytes part (a .loop .i) k h) (fill-one (a .loop .i) (a .loop .out) (xors bytes part) (omega (arith, a .loop .inv .1)) (omega (arith, length-xors bytes part)) (a .loop .inv .2)),
+      rw (← getD-xors bytes part (a .loop .i) k h)
+          (fill-one (a .loop .i) (a .loop .out) (xors bytes part) (omega (arith, a .loop .inv .1))
+          (omega (arith, length-xors bytes part)) (a .loop .inv .2)),
     )
 
 returns : tie.Need-returns Inv-loop μ-loop
@@ -39,10 +42,12 @@ returns c =
     let part : List ℕ = s .args .part .now in
     let h : length part ≤ a .loop .i = search needs in
     rw (← a .before .before .store .ensures)
-    (sym (take-all (a .loop .i) (a .loop .out) (omega (arith, a .loop .inv .1))) ∙ a .loop .inv .2 ∙ take-all (a .loop .i) (xors bytes part) (omega (arith, length-xors bytes part)))
+    (sym (take-all (a .loop .i) (a .loop .out) (omega (arith, a .loop .inv .1))) ∙ a .loop .inv .2
+    ∙ take-all (a .loop .i) (xors bytes part) (omega (arith, length-xors bytes part)))
 
 pub add-part-spec : {M : Type 1} → statement M
 add-part-spec =
     tie.close
-    (tie.spec Inv-loop μ-loop (λ c. search needs) (λ c κs. search needs) (λ c. search needs) (λ c. search needs) (λ c. search needs)
+    (tie.spec Inv-loop μ-loop (λ c. search needs) (λ c κs. search needs) (λ c. search needs) (λ c. search needs)
+    (λ c. search needs)
     (λ c. search needs) (λ c. search needs) (λ c. search needs) loop-again (λ c. search needs) returns)

@@ -11,4 +11,5 @@ returns c = rw (c .wrapping-add-u32 .ensures)
 pub counter-state-spec : {M : Type 1} → statement M
 counter-state-spec =
     tie.close
-    (tie.spec (λ c. search needs) (λ c κs. search needs) (λ c. search needs) (λ c. search needs) (λ c. search needs) returns)
+    (tie.spec (λ c. search needs) (λ c κs. search needs) (λ c. search needs) (λ c. search needs)
+    (λ c. search needs) returns)

@@ -18,30 +18,50 @@ returns c = answered-refused _ (judged-false (ne-eqb _ _ (c .if1 .taken)) 3 _ _)
 
 returns-2 : tie.Need-returns-2
 unfolding cryptNoteBy noteChecks blockCheck outputCheck
-returns-2 c = answered-refused _ (judged-true (eq-eqb _ _ (c .before .if1 .left)) 3 _ _ ∙ judged-false (ne-eqb _ _ (c .if2 .taken)) 4 _ _)
+returns-2 c = answered-refused _ (judged-true (eq-eqb _ _ (c .before .if1 .left)) 3 _ _
+    ∙ judged-false (ne-eqb _ _ (c .if2 .taken)) 4 _ _)
 
 returns-3 : tie.Need-returns-3
 unfolding cryptNoteBy noteChecks blockCheck outputCheck noteCheck
 returns-3 c =
     answered-refused _
-    (judged-true (eq-eqb _ _ (c .before .before .if1 .left)) 3 _ _ ∙ judged-true (eq-eqb _ _ (c .before .if2 .left)) 4 _ _ ∙ judged-false (lt-leb _ _ (c .if3 .taken)) 12 _ _)
+    (judged-true (eq-eqb _ _ (c .before .before .if1 .left)) 3 _ _
+    ∙ judged-true (eq-eqb _ _ (c .before .if2 .left)) 4 _ _ ∙ judged-false (lt-leb _ _ (c .if3 .taken)) 12 _ _)
 
 write-note-requires : tie.Need-write-note-requires
 write-note-requires c κs =
     let s : tie.Start = c .before .before .before .before .before .before .before .before .before in
     let t : tie.Else3 = c .before .before in
-    let bytes : Below 256 (s .args .counter .now) = below-all (s .args .counter .now) (λ j h. c .before .before .before .before .before .before .before .shared-slice-known2 .given j .fits) in
-    (s .pre .0, record { words = s .pre .1; state = rw (c .before .load .ensures) (words-of-block bytes); short = t .if3 .left; room = t .before .if2 .left })
+    let bytes : Below 256 (s .args .counter .now) =
+    below-all (s .args .counter .now)
+    (λ j h. c .before .before .before .before .before .before .before .shared-slice-known2 .given j .fits) in (
+      s .pre .0,
+      record {
+        words = s .pre .1;
+        state = rw (c .before .load .ensures) (words-of-block bytes);
+        short =
+            t .if3 .left;
+        room = t .before .if2 .left;
+      },
+    )
 
 returns-4 : tie.Need-returns-4
 unfolding cryptNoteBy noteChecks blockCheck outputCheck noteCheck
 returns-4 c =
-    let s : tie.Start = c .before .before .before .before .before .before .before .before .before .before .before .before in
+    let s : tie.Start = c .before .before .before .before .before .before .before .before .before .before .before
+    .before in
     let t : tie.Else3 = c .before .before .before .before .before in
-    let bytes : Below 256 (s .args .counter .now) = below-all (s .args .counter .now) (λ j h. c .before .before .before .before .before .before .before .before .before .before .shared-slice-known2 .given j .fits) in
-    let e : bytesOf (c .before .before .before .before .load .result) ≡ s .args .counter .now = rw (c .before .before .before .before .load .ensures) (words-block (record { size = t .before .before .if1 .left; below = bytes })) in
+    let bytes : Below 256 (s .args .counter .now) =
+    below-all (s .args .counter .now)
+    (λ j h. c .before .before .before .before .before .before .before .before .before .before
+    .shared-slice-known2 .given j .fits) in
+    let e : bytesOf (c .before .before .before .before .load .result) ≡ s .args .counter .now =
+    rw (c .before .before .before .before .load .ensures)
+    (words-block (record { size = t .before .before .if1 .left; below = bytes })) in
     answered-accepted _ _
-    (judged-true (eq-eqb _ _ (t .before .before .if1 .left)) 3 _ _ ∙ judged-true (eq-eqb _ _ (t .before .if2 .left)) 4 _ _ ∙ judged-true (le-leb _ _ (t .if3 .left)) 12 _ _ ∙ judged-pass none _)
+    (judged-true (eq-eqb _ _ (t .before .before .if1 .left)) 3 _ _
+    ∙ judged-true (eq-eqb _ _ (t .before .if2 .left)) 4 _ _ ∙ judged-true (le-leb _ _ (t .if3 .left)) 12 _ _
+    ∙ judged-pass none _)
     (rw e at (c .before .before .write-note .ensures))
 
 pub crypt-note-spec : {M : Type 1} → statement M

@@ -13,13 +13,16 @@ returns : tie.Need-returns
 returns c =
     let b : tie.After-write-number = c .before .before in
     let s : tie.Start = b .before .before .before in
-    let size : length (take (s .args .at + s .args .width - s .args .at) (drop (s .args .at) (s .args .out .now))) ≡ s .args .width =
+    let size : length (take (s .args .at + s .args .width - s .args .at) (drop (s .args .at) (s .args .out .now)))
+    ≡ s .args .width =
     part-length (s .args .width) (s .args .at) (s .args .out .now) refl (search needs) in
-    let p : b .write-number .last .0 ≡ numberField (s .args .width) (s .args .n) = rw size at (b .write-number .ensures) in
+    let p : b .write-number .last .0 ≡ numberField (s .args .width) (s .args .n) =
+    rw size at (b .write-number .ensures) in
     rw p (field-put (s .args .at) (s .args .width) (s .args .n) (s .args .after) (s .args .out .now) (s .pre .1))
 
 pub put-field-spec : {M : Type 1} → statement M
 put-field-spec =
     tie.close
-    (tie.spec (λ c. search needs) (λ c. search needs) (λ c. search needs) (λ c. search needs) (λ c κs. search needs) (λ c. search needs) (λ c. search needs)
+    (tie.spec (λ c. search needs) (λ c. search needs) (λ c. search needs) (λ c. search needs) (λ c κs. search needs)
+    (λ c. search needs) (λ c. search needs)
     returns)

@@ -27,7 +27,8 @@ loop-holds : tie.Need-loop-holds Inv-loop μ-loop
 loop-holds c =
     let h : tie.After-write-heading Inv-loop μ-loop = c .before .before in
     let s : tie.Start Inv-loop μ-loop = h .before .before .before .before in
-    lined-start (s .args .count) (s .args .body .now) (h .write-heading .kept .0 ∙ s .pre .1) (h .write-heading .ensures)
+    lined-start (s .args .count) (s .args .body .now) (h .write-heading .kept .0 ∙ s .pre .1)
+    (h .write-heading .ensures)
 
 add-end : tie.Need-add-end Inv-loop μ-loop
 add-end c = omega (arith, c .before .loop .inv .beside, room c)
@@ -43,17 +44,22 @@ part-write-line-end-2 c = room (c .before)
 
 write-line-requires : tie.Need-write-line-requires Inv-loop μ-loop
 write-line-requires c κs =
-    let i : tie.In-loop Inv-loop μ-loop = c .before .before in
-    (part-length 16 (i .before .loop .at) _ refl (omega (arith, i .before .loop .inv .place, i .loop-test .taken, start i .pre .0)), part-length 32 (i .before .loop .to) _ refl (room i))
+    let i : tie.In-loop Inv-loop μ-loop = c .before .before in (
+      part-length 16 (i .before .loop .at) _ refl (omega (arith, i .before .loop .inv .place, i .loop-test .taken,
+          start i .pre .0)),
+      part-length 32 (i .before .loop .to) _ refl (room i),
+    )
 
 loop-again : tie.Need-loop-again Inv-loop μ-loop
 loop-again c =
     let w : tie.After-write-line Inv-loop μ-loop = c .before .before in
     let i : tie.In-loop Inv-loop μ-loop = w .before .before .before in
-    rw (w .write-line .ensures, part 16 (i .before .loop .at) (start i .args .body .now) refl) (lined-next (i .before .loop .inv) (i .loop-test .taken))
+    rw (w .write-line .ensures, part 16 (i .before .loop .at) (start i .args .body .now) refl)
+    (lined-next (i .before .loop .inv) (i .loop-test .taken))
 
 same-length : tie.Need-same-length Inv-loop μ-loop
-same-length c = c .before .loop .inv .size ∙ sym (c .before .before .before .before .before .before .before .before .pre .1)
+same-length c = c .before .loop .inv .size
+    ∙ sym (c .before .before .before .before .before .before .before .before .pre .1)
 
 returns : tie.Need-returns Inv-loop μ-loop
 returns c = lined-end (c .before .loop .inv) (search needs)
@@ -61,6 +67,8 @@ returns c = lined-end (c .before .loop .inv) (search needs)
 pub write-page-spec : {M : Type 1} → statement M
 write-page-spec =
     tie.close
-    (tie.spec Inv-loop μ-loop (λ c κs. search needs) loop-holds add-end add-next (λ c. search needs) (λ c. search needs) part-write-line-end
-    (λ c. search needs) (λ c. search needs) part-write-line-end-2 write-line-requires (λ c. search needs) (λ c. search needs) loop-again
+    (tie.spec Inv-loop μ-loop (λ c κs. search needs) loop-holds add-end add-next (λ c. search needs)
+    (λ c. search needs) part-write-line-end
+    (λ c. search needs) (λ c. search needs) part-write-line-end-2 write-line-requires (λ c. search needs)
+    (λ c. search needs) loop-again
     same-length returns)

@@ -1,4 +1,5 @@
--- `planbook::planbook_expand_key` meets its contract: the number of the answer, and the output, of the call below.
+-- `planbook::planbook_expand_key` meets its contract: the number of the answer, and the output, of
+-- the call below.
 use borrow.Author.Needs.{needs}
 use Rattle.call_answer.specs.Answer.{answers}
 use Rattle.planbook.proofs.planbook_expand_key.Statement.{statement}

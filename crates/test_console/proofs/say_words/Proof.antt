@@ -37,5 +37,6 @@ loop-again c = omega arith
 pub say-words-spec : {M : Type 1} → statement M
 say-words-spec =
     tie.close
-    (tie.spec Inv-loop μ-loop loop-holds sub-loop say-word-requires add-at sub-left (λ c κs. search needs) loop-less loop-again
+    (tie.spec Inv-loop μ-loop loop-holds sub-loop say-word-requires add-at sub-left
+    (λ c κs. search needs) loop-less loop-again
     (λ c. search needs))

@@ -1,4 +1,5 @@
--- `book_entries::record::clear_sheet_holds` meets its contract: `left` records are to come, the first of them at `at`.
+-- `book_entries::record::clear_sheet_holds` meets its contract: `left` records are to come, the
+-- first of them at `at`.
 use mathlib.Core.List.{List}
 use native.Mathlib.Omega.{arith}
 use borrow.Author.Tests.{not-true, not-false}
@@ -16,7 +17,8 @@ use Rattle.book_entries.proofs.record.clear_sheet_holds.Statement.{stat
 use Rattle.book_entries.proofs.record.clear_sheet_holds.Tie as tie
 
 abbrev Inv-loop : tie.InvT-loop
-Inv-loop entry body sheet at₀ left₀ at left = (at + 16 * left ≡ 16 * count entry) × (sheet ≡ sheetOf entry) × (allRecordsHold entry (pieces 16 left (drop at body)) ≡ sheetHolds entry body)
+Inv-loop entry body sheet at₀ left₀ at left = (at + 16 * left ≡ 16 * count entry) × (sheet ≡ sheetOf entry)
+    × (allRecordsHold entry (pieces 16 left (drop at body)) ≡ sheetHolds entry body)
 
 abbrev μ-loop : tie.MeasureT-loop
 μ-loop entry body sheet at₀ left₀ at left = left
@@ -32,13 +34,15 @@ bytes i = below-all (body i) (λ k h. i .before .before .before .shared-slice-kn
 
 -- what is known of the record at `at`
 tested : (c : tie.After-record-holds Inv-loop μ-loop)
-    → c .record-holds .result ≡ recordHolds (entry (c .before .before)) (take 16 (drop (c .before .before .before .loop .at) (body (c .before .before))))
+    → c .record-holds .result ≡ recordHolds (entry (c .before .before))
+    (take 16 (drop (c .before .before .before .loop .at) (body (c .before .before))))
 tested c =
     let i : tie.In-loop Inv-loop μ-loop = c .before .before in
     let h : 16 ≤ length (drop (i .before .loop .at) (body i)) = rw length-drop (search needs) in
     c .record-holds .ensures (entry i) (i .before .loop .inv .1)
     ∙ ap (λ (l : List ℕ). recordHolds (entry i) (bytesOf l)) (c .before .load .ensures)
-    ∙ ap (recordHolds (entry i)) (block-at (drop (i .before .loop .at) (body i)) (below-drop (i .before .loop .at) (bytes i)) h)
+    ∙ ap (recordHolds (entry i)) (block-at (drop (i .before .loop .at) (body i))
+    (below-drop (i .before .loop .at) (bytes i)) h)
 
 loop-holds : tie.Need-loop-holds Inv-loop μ-loop
 loop-holds c =
@@ -48,7 +52,8 @@ loop-holds c =
 returns : tie.Need-returns Inv-loop μ-loop
 returns c =
     let i : tie.In-loop Inv-loop μ-loop = c .before .before .before in
-    sym (records-next (entry i) (i .before .loop .left) (i .before .loop .at) (body i) (search needs) (sym (tested (c .before)) ∙ not-true _ (c .if1 .taken)))
+    sym (records-next (entry i) (i .before .loop .left) (i .before .loop .at) (body i) (search needs)
+    (sym (tested (c .before)) ∙ not-true _ (c .if1 .taken)))
     ∙ i .before .loop .inv .2
 
 loop-again : tie.Need-loop-again Inv-loop μ-loop
@@ -56,7 +61,8 @@ loop-again c =
     let i : tie.In-loop Inv-loop μ-loop = c .before .before .before in (
       search needs,
       i .before .loop .inv .1,
-      sym (records-next (entry i) (i .before .loop .left) (i .before .loop .at) (body i) (search needs) (sym (tested (c .before)) ∙ not-false _ (c .if1 .left)))
+      sym (records-next (entry i) (i .before .loop .left) (i .before .loop .at) (body i) (search needs)
+          (sym (tested (c .before)) ∙ not-false _ (c .if1 .left)))
           ∙ i .before .loop .inv .2,
     )
 
@@ -67,5 +73,6 @@ returns-2 c = let z : c .before .loop .left ≡ 0 = search needs in rw z at (c .
 pub clear-sheet-holds-spec : {M : Type 1} → statement M
 clear-sheet-holds-spec =
     tie.close
-    (tie.spec Inv-loop μ-loop (λ c κs. search needs) loop-holds (λ c κs. search needs) (λ c κs. search needs) returns (λ c. search needs)
+    (tie.spec Inv-loop μ-loop (λ c κs. search needs) loop-holds (λ c κs. search needs) (λ c κs. search needs) returns
+    (λ c. search needs)
     (λ c. search needs) (λ c. search needs) loop-again returns-2)

@@ -41,4 +41,5 @@ returns c =
 pub product-spec : {M : Type 1} → statement M
 product-spec =
     tie.close
-    (tie.spec Inv-loop μ-loop loop-holds (λ c κs. search needs) (λ c κs. search needs) sub-left loop-less loop-again returns)
+    (tie.spec Inv-loop μ-loop loop-holds (λ c κs. search needs)
+    (λ c κs. search needs) sub-left loop-less loop-again returns)

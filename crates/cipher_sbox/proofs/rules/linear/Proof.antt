@@ -30,7 +30,8 @@ loop-again c =
     let columns = c .before .before .before .args .t1 in
     let l : length columns ≡ 8 = c .before .before .before .good .0 .1 .0 .1 in (
       omega arith,
-      rw (c .last-bit-times .ensures) (sym (addColumns-step columns (h .i) (h .sum) (h .bits) (omega arith)) ∙ h .inv .1),
+      rw (c .last-bit-times .ensures) (sym (addColumns-step columns (h .i) (h .sum) (h .bits) (omega arith))
+          ∙ h .inv .1),
     )
 
 returns : tie.Need-returns Inv-loop μ-loop

@@ -23,10 +23,18 @@ unfolding fourBitBoxes s0
 returns c =
     let boxes = c .before .before .before .before in
     let doubles = c .before .before in
-    rw (c .before .four-bit-box3 .ensures .right, c .four-bit-box4 .ensures .right, doubles .double-four-bits2 .ensures .right, doubles .before .double-four-bits .ensures .right, boxes .four-bit-box2 .ensures .right, boxes .before .four-bit-box .ensures .right)
+    rw (
+      c .before .four-bit-box3 .ensures .right,
+      c .four-bit-box4 .ensures .right,
+      doubles .double-four-bits2 .ensures .right,
+      doubles .before .double-four-bits .ensures .right,
+      boxes .four-bit-box2 .ensures .right,
+      boxes .before .four-bit-box .ensures .right,
+    )
 
 pub s0-spec : {M : Type 1} → statement M
 s0-spec =
     tie.close
-    (tie.spec (λ c κs. search needs) (λ c κs. search needs) (λ c κs. search needs) (λ c κs. search needs) four-bit-box-requires-3
+    (tie.spec (λ c κs. search needs) (λ c κs. search needs) (λ c κs. search needs)
+    (λ c κs. search needs) four-bit-box-requires-3
     (λ c. search needs) four-bit-box-requires-4 (λ c. search needs) returns)

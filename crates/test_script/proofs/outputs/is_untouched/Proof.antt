@@ -31,4 +31,5 @@ loop-again c = omega arith
 pub is-untouched-spec : {M : Type 1} → statement M
 is-untouched-spec =
     tie.close
-    (tie.spec Inv-loop μ-loop loop-holds shared-slice-read-if1 (λ c. search needs) add-i loop-less loop-again (λ c. search needs))
+    (tie.spec Inv-loop μ-loop loop-holds shared-slice-read-if1 (λ c. search needs) add-i loop-less loop-again
+    (λ c. search needs))
