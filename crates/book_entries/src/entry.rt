@@ -1,9 +1,7 @@
 // An entry of the contents, 24 bytes: read as its sheet, or else as broken.
 ghost use mathlib.Core.Path.{_≡_};
-ghost use mathlib.Core.Bool.{_&&_};
-ghost use Prim.Native.Nat.{_+_, _*_, _≤_};
 ghost use lib.ListN.{length};
-ghost use Rattle.planbook_spec.specs.Book.{number, replicates};
+ghost use Rattle.planbook_spec.specs.Book.{replicates};
 ghost use Rattle.book_entries.specs.Entry.{sheetOf, entryOf};
 use book_numbers::u16_at;
 

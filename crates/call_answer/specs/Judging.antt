@@ -54,13 +54,8 @@ pub answered-same : {o o′ : Outcome} {out exit : List ℕ} {r : Answer} → o�
     → Answered o′ out r exit
 answered-same e g = rw e g
 
--- The first group of a call's checks, made by a part of the call that answered r: it refuses the
--- call, or leaves the rest to come.
+-- The first group of a call's checks, made by a part of the call that answered r, refuses the call.
 pub refused-by : (cs ds : List Check) (n : ℕ) (o : Outcome) (out : List ℕ) {r : Answer} {c : ℕ}
     → r ≡ answerOf (judged cs (accepted n [])) → r ≡ Refused c
     → Answered (judged (cs ++ ds) o) out r out
 refused-by cs ds n o out e h = rw h (answered-refused out (stopped-first cs ds n o (sym h ∙ e)))
-
-pub passed-by : {cs : List Check} (ds : List Check) (o : Outcome) {out exit : List ℕ} {r : Answer} → AllPass cs
-    → Answered (judged ds o) out r exit → Answered (judged (cs ++ ds) o) out r exit
-passed-by {cs} ds o p g = answered-same (passed-first cs ds o p) g

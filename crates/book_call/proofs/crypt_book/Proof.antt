@@ -49,7 +49,8 @@ write-book-requires c κs =
     let t : tie.Start = start (sized k) in (
       t .pre,
       (
-        checked-formed (t .args .decrypting) (t .args .expanded .now) _ (t .args .out .now) (sized k .if1 .left) (answered k),
+        checked-formed (t .args .decrypting) (t .args .expanded .now) _ (t .args .out .now) (sized k .if1 .left)
+            (answered k),
         sized k .if1 .left,
       ),
     )

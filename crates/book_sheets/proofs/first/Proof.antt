@@ -1,5 +1,4 @@
 -- `book_sheets::first` meets its contract.
-use mathlib.Core.Path.{refl}
 use borrow.Author.Needs.{needs}
 use Rattle.book_sheets.specs.Cursors.{at-first}
 use Rattle.book_sheets.proofs.first.Statement.{statement}

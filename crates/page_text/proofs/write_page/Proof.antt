@@ -45,8 +45,12 @@ part-write-line-end-2 c = room (c .before)
 write-line-requires : tie.Need-write-line-requires Inv-loop μ-loop
 write-line-requires c κs =
     let i : tie.In-loop Inv-loop μ-loop = c .before .before in (
-      part-length 16 (i .before .loop .at) _ refl (omega (arith, i .before .loop .inv .place, i .loop-test .taken,
-          start i .pre .0)),
+      part-length 16 (i .before .loop .at) _ refl (omega (
+        arith,
+        i .before .loop .inv .place,
+        i .loop-test .taken,
+        start i .pre .0,
+      )),
       part-length 32 (i .before .loop .to) _ refl (room i),
     )
 
