@@ -1,4 +1,3 @@
--- `book_call::decrypt_book` meets its contract.
 use Rattle.planbook_spec.specs.Book.{decryptBookBy}
 use borrow.Author.Needs.{needs}
 use Rattle.book_call.proofs.decrypt_book.Statement.{statement}

@@ -1,4 +1,3 @@
--- `book_call::encrypt_book` meets its contract.
 use Rattle.planbook_spec.specs.Book.{encryptBookBy}
 use borrow.Author.Needs.{needs}
 use Rattle.book_call.proofs.encrypt_book.Statement.{statement}

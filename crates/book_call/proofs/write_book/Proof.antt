@@ -1,4 +1,3 @@
--- `book_call::write_book` meets its contract.
 use mathlib.Core.Path.{_∙_}
 use Rattle.book_call.specs.BookCallLaws.{mapBodies-whole}
 use borrow.Author.Needs.{needs}

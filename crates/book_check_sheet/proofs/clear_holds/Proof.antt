@@ -1,4 +1,3 @@
--- `book_check_sheet::clear_holds` meets its contract.
 use borrow.Author.Needs.{needs}
 use Rattle.book_check_sheet.proofs.clear_holds.Statement.{statement}
 use Rattle.book_check_sheet.proofs.clear_holds.Tie as tie

@@ -12,19 +12,16 @@ use Rattle.book_check_sheet.proofs.four_hold.Tie as tie
 
 returns : tie.Need-returns
 returns c e left known size o h =
-    let s : tie.Start = c .before .before .before .before .before .before .before .before .before .before .before
-    .before .before .before in
+    let d : tie.After-decrypt-four = c .before .before .before .before .before .before .before .before .before .before .before in
+    let s : tie.Start = d .before .before .before in
     let at = s .args .at in
     let words : Below (2 ^ 32) (s .args .expanded .now) =
     below-all (s .args .expanded .now)
-    (λ j k. c .before .before .before .before .before .before .before .before .before .before .before .before
-    .before .shared-slice-known .given j .fits) in
+    (λ j k. d .before .before .shared-slice-known .given j .fits) in
     let bytes : Below 256 (s .args .body .now) =
     below-all (s .args .body .now)
-    (λ j k. c .before .before .before .before .before .before .before .before .before .before .before .before
+    (λ j k. d .before
     .shared-slice-known2 .given j .fits) in
-    let d : tie.After-decrypt-four = c .before .before .before .before .before .before .before .before .before .before
-    .before in
     let p : at + 64 ≡ at + 16 + 16 + 16 + 16 = omega arith in
     let q : at + 48 ≡ at + 16 + 16 + 16 = omega arith in
     let n : left - 4 ≡ left - 1 - 1 - 1 - 1 = omega arith in

@@ -1,4 +1,3 @@
--- `book_crypt_sheet::begin` meets its contract.
 use Rattle.clefia_laws.specs.DigitLaws.{below-all}
 use Rattle.book_chain.specs.ChainLaws.{chain-start}
 use borrow.Author.Needs.{needs}

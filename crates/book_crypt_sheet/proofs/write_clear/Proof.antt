@@ -1,5 +1,4 @@
 -- `book_crypt_sheet::write_clear` meets its contract.
--- `book_crypt_sheet::write_clear` meets its contract.
 use borrow.Author.Needs.{needs}
 use Rattle.book_crypt_sheet.proofs.write_clear.Statement.{statement}
 use Rattle.book_crypt_sheet.proofs.write_clear.Tie as tie

@@ -26,21 +26,17 @@ write-clear-requires-4 c κs =
 
 returns : tie.Need-returns
 returns c e left size k h =
-    let s : tie.Start = c .before .before .before .before .before .before .before .before .before .before .before
-    .before .before .before .before .before .before .before .before .before .before .before .before .before in
+    let d : tie.After-decrypt-four = c .before .before .before .before .before .before .before .before .before .before .before .before .before .before .before .before .before .before .before .before in
+    let s : tie.Start = d .before .before .before .before in
     let at = s .args .at in
     let words : Below (2 ^ 32) (s .args .expanded .now) =
     below-all (s .args .expanded .now)
-    (λ j i. c .before .before .before .before .before .before .before .before .before .before .before .before
-    .before .before .before .before .before .before .before .before .before .before .before
+    (λ j i. d .before .before .before
     .shared-slice-known .given j .fits) in
     let bytes : Below 256 (s .args .body .now) =
     below-all (s .args .body .now)
-    (λ j i. c .before .before .before .before .before .before .before .before .before .before .before .before
-    .before .before .before .before .before .before .before .before .before .before .shared-slice-known2
+    (λ j i. d .before .before .shared-slice-known2
     .given j .fits) in
-    let d : tie.After-decrypt-four = c .before .before .before .before .before .before .before .before .before .before
-    .before .before .before .before .before .before .before .before .before .before in
     let p : at + 64 ≡ at + 16 + 16 + 16 + 16 = omega arith in
     let n : left - 4 ≡ left - 1 - 1 - 1 - 1 = omega arith in
     rw (p, n)

@@ -1,4 +1,3 @@
--- `book_form::check_form` meets its contract.
 use mathlib.Core.Path.{sym, _∙_}
 use lib.ListN.{take}
 use Rattle.planbook_spec.specs.Book.{sheetCount, formChecks}

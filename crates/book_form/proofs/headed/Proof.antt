@@ -1,4 +1,3 @@
--- `book_form::headed` meets its contract.
 use borrow.Author.Tests.{eq-eqb, ne-eqb}
 use borrow.Author.Needs.{needs}
 use Rattle.book_form.proofs.headed.Statement.{statement}

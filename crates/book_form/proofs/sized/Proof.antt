@@ -1,4 +1,3 @@
--- `book_form::sized` meets its contract.
 use borrow.Author.Tests.{le-leb, lt-leb}
 use Rattle.book_form.proofs.sized.Statement.{statement}
 use Rattle.book_form.proofs.sized.Tie as tie

@@ -1,4 +1,3 @@
--- `book_numbers::u16_at` meets its contract.
 use mathlib.Core.Path.{sym, _∙_}
 use Rattle.planbook_laws.specs.WalkLaws.{number-two}
 use borrow.Author.Needs.{needs}

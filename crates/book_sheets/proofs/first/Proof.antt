@@ -1,4 +1,3 @@
--- `book_sheets::first` meets its contract.
 use borrow.Author.Needs.{needs}
 use Rattle.book_sheets.specs.Cursors.{at-first}
 use Rattle.book_sheets.proofs.first.Statement.{statement}

@@ -1,4 +1,3 @@
--- `call_checks::check_key` meets its contract.
 use mathlib.Core.Path.{ap, _∙_}
 use borrow.Author.Needs.{needs}
 use Rattle.call_answer.specs.declared.Answer.the-variants.{Accepted}

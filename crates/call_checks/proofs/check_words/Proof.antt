@@ -1,4 +1,3 @@
--- `call_checks::check_words` meets its contract.
 use borrow.Author.Needs.{needs}
 use Rattle.planbook_spec.specs.Checks.{wordsCheck}
 use Rattle.call_checks.specs.CheckTests.{check-fails, check-passes}

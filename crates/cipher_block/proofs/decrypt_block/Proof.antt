@@ -1,4 +1,3 @@
--- `cipher_block::decrypt_block` meets its contract.
 use borrow.Author.Needs.{needs}
 use Rattle.clefia_spec.specs.Block.{decryptUnder}
 use Rattle.cipher_block.proofs.decrypt_block.Statement.{statement}

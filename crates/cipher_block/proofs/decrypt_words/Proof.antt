@@ -1,4 +1,3 @@
--- `cipher_block::decrypt_words` meets its contract.
 use borrow.Author.Needs.{needs}
 use Rattle.clefia_spec.specs.Block.{roundCount, decryptWords}
 use Rattle.cipher_block.proofs.decrypt_words.Statement.{statement}

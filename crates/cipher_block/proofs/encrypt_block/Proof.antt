@@ -1,4 +1,3 @@
--- `cipher_block::encrypt_block` meets its contract.
 use borrow.Author.Needs.{needs}
 use Rattle.clefia_spec.specs.Block.{encryptUnder}
 use Rattle.cipher_block.proofs.encrypt_block.Statement.{statement}

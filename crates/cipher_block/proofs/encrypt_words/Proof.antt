@@ -1,4 +1,3 @@
--- `cipher_block::encrypt_words` meets its contract.
 use borrow.Author.Needs.{needs}
 use Rattle.clefia_spec.specs.Block.{roundCount, encryptWords}
 use Rattle.cipher_block.proofs.encrypt_words.Statement.{statement}

@@ -1,4 +1,3 @@
--- `cipher_block::whiten` meets its contract.
 use borrow.Author.Needs.{needs}
 use Rattle.clefia_spec.specs.Block.{whiten}
 use Rattle.clefia_spec.specs.Words.{xors}

@@ -1,4 +1,3 @@
--- `cipher_block_four_way::decrypt_each` meets its contract.
 use Rattle.clefia_spec.specs.Block.{roundCount, decryptWords}
 use borrow.Author.Needs.{needs}
 use Rattle.cipher_block_four_way.proofs.decrypt_each.Statement.{statement}

@@ -1,4 +1,3 @@
--- `cipher_block_four_way::decrypt_four` meets its contract.
 use borrow.Author.Needs.{needs}
 use Rattle.cipher_block_four_way.proofs.decrypt_four.Statement.{statement}
 use Rattle.cipher_block_four_way.proofs.decrypt_four.Tie as tie

@@ -1,4 +1,3 @@
--- `cipher_block_four_way::encrypt_each` meets its contract.
 use Rattle.clefia_spec.specs.Block.{roundCount, encryptWords}
 use borrow.Author.Needs.{needs}
 use Rattle.cipher_block_four_way.proofs.encrypt_each.Statement.{statement}

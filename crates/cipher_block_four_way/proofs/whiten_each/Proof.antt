@@ -1,4 +1,3 @@
--- `cipher_block_four_way::whiten_each` meets its contract.
 use borrow.Author.Needs.{needs}
 use Rattle.cipher_block_four_way.proofs.whiten_each.Statement.{statement}
 use Rattle.cipher_block_four_way.proofs.whiten_each.Tie as tie

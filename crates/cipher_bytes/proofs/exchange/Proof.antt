@@ -1,4 +1,3 @@
--- `cipher_bytes::exchange` meets its contract.
 use mathlib.Core.Path.{sym}
 use Rattle.clefia_spec.specs.Words.{toDigits, digitsOf}
 use Rattle.cipher_bytes.specs.ListLaws.{spelled, spell, putFour, wordAt, four-words}
@@ -17,11 +16,9 @@ returns c =
     record {
       read =
           rw (
-            c .before .before .before .before .before .before .before .before .before .before .before .before .before
-                .before .before .word .ensures,
-            c .before .before .before .before .before .before .before .before .before
-                .before .word2 .ensures,
-            c .before .before .before .before .before .word3 .ensures,
+            w4 .before .before .before .before .before .before .before .before .before .before .before .before .word .ensures,
+            w4 .before .before .before .before .before .before .before .word2 .ensures,
+            w4 .before .before .word3 .ensures,
             c .word4 .ensures,
           )
           (sym (four-words (a .args .src .now) (a .args .from)));

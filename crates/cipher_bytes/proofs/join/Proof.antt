@@ -1,4 +1,3 @@
--- `cipher_bytes::join` meets its contract.
 use native.Mathlib.Omega.{arith}
 use borrow.Author.Needs.{needs}
 use Rattle.clefia_spec.specs.Words.{fromDigits}

@@ -1,4 +1,3 @@
--- `cipher_bytes::load` meets its contract.
 use mathlib.Core.Path.{sym}
 use borrow.Author.Needs.{needs}
 use Rattle.cipher_bytes.specs.ListLaws.{wordAt, four-words}

@@ -1,4 +1,3 @@
--- `cipher_bytes::put_four` meets its contract.
 use native.Mathlib.Omega.{arith}
 use lib.ListN.{length-set}
 use borrow.Author.Needs.{needs}

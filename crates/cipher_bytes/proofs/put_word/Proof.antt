@@ -1,4 +1,3 @@
--- `cipher_bytes::put_word` meets its contract.
 use native.Mathlib.Nat.{div-one}
 use native.Mathlib.Omega.{arith}
 use lib.ListN.{length-set}

@@ -1,4 +1,3 @@
--- `cipher_bytes::store` meets its contract.
 use borrow.Author.Needs.{needs}
 use Rattle.clefia_spec.specs.Words.{toDigits, digitsOf}
 use Rattle.cipher_bytes.specs.ListLaws.{spelled, spell, putFour}

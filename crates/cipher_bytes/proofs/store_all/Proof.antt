@@ -1,4 +1,3 @@
--- `cipher_bytes::store_all` meets its contract.
 use Prim.Native.Nat.{_+_}
 use Prim.Native.Nat.{_-_, _*_, _≤_}
 use mathlib.Core.List.{_++_}

@@ -1,4 +1,3 @@
--- `cipher_bytes::word` meets its contract.
 use mathlib.Core.Path.{_∙_, ap, sym}
 use borrow.Author.Needs.{needs}
 use Rattle.clefia_spec.specs.Words.{fourAt, fromDigits}

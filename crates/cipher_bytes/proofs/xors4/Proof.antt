@@ -1,4 +1,3 @@
--- `cipher_bytes::xors4` meets its contract.
 use borrow.Author.Needs.{needs}
 use Rattle.clefia_spec.specs.Words.{xors}
 use Rattle.cipher_bytes.specs.ListLaws.{spelled, spell}

@@ -1,4 +1,3 @@
--- `cipher_feistel::feistel4` meets its contract.
 use borrow.Author.Needs.{needs}
 use Rattle.clefia_spec.specs.Network.{feistel}
 use Rattle.cipher_bytes.specs.ListLaws.{spelled, spell}

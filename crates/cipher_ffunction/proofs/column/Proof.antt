@@ -1,4 +1,3 @@
--- `cipher_ffunction::column` meets its contract.
 use Rattle.cipher_ffunction.specs.ColumnLaws.{word-at, length-wordTables}
 use Prim.Native.Nat.{_+_, _*_, _<_}
 use borrow.Author.Needs.{needs}

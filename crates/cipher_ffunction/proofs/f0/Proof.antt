@@ -1,4 +1,3 @@
--- `cipher_ffunction::f0` meets its contract.
 use Rattle.cipher_ffunction.specs.Tables.{mix-f0}
 use borrow.Author.Needs.{needs}
 use Rattle.cipher_ffunction.proofs.f0.Statement.{statement}

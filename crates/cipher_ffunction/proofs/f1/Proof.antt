@@ -1,4 +1,3 @@
--- `cipher_ffunction::f1` meets its contract.
 use Rattle.cipher_ffunction.specs.Tables.{mix-f1}
 use borrow.Author.Needs.{needs}
 use Rattle.cipher_ffunction.proofs.f1.Statement.{statement}

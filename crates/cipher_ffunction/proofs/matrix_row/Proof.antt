@@ -1,4 +1,3 @@
--- `cipher_ffunction::matrix_row` meets its contract.
 use borrow.Author.Needs.{needs}
 use Rattle.cipher_ffunction.proofs.matrix_row.Statement.{statement}
 use Rattle.cipher_ffunction.proofs.matrix_row.Tie as tie

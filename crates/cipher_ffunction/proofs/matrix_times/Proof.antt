@@ -1,4 +1,3 @@
--- `cipher_ffunction::matrix_times` meets its contract.
 use borrow.Author.Needs.{needs}
 use Rattle.clefia_spec.specs.FFunction.{matrixEntry, rowTimes, matrixTimes}
 use Rattle.cipher_ffunction.proofs.matrix_times.Statement.{statement}

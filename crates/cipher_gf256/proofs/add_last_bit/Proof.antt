@@ -1,4 +1,3 @@
--- `cipher_gf256::add_last_bit` meets its contract.
 use borrow.Author.Needs.{needs}
 use Rattle.cipher_gf256.proofs.add_last_bit.Statement.{statement}
 use Rattle.cipher_gf256.proofs.add_last_bit.Tie as tie

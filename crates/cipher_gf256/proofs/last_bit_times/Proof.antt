@@ -1,4 +1,3 @@
--- `cipher_gf256::last_bit_times` meets its contract.
 use native.Mathlib.Omega.{arith}
 use borrow.Author.Needs.{needs}
 use Rattle.cipher_gf256.specs.ProductLaws.{bit-times-le}

@@ -1,4 +1,3 @@
--- `cipher_key_schedule::expand_key` meets its contract.
 use mathlib.Core.Path.{_≡_}
 use native.Mathlib.Omega.{arith}
 use lib.ListN.{length}

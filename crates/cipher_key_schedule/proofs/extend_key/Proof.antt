@@ -1,4 +1,3 @@
--- `cipher_key_schedule::extend_key` meets its contract.
 use mathlib.Core.Path.{sym}
 use borrow.Author.Needs.{needs}
 use Rattle.clefia_spec.specs.Words.{complement}

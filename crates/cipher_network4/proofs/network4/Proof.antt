@@ -1,4 +1,3 @@
--- `cipher_network4::network4` meets its contract.
 use Prim.Native.Nat.{_+_, _*_, _≤_, _<_}
 use mathlib.Core.Path.{_≡_, refl, _∙_, ap}
 use lib.ListN.{length}

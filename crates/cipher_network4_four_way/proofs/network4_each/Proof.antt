@@ -1,4 +1,3 @@
--- `cipher_network4_four_way::network4_each` meets its contract.
 use Prim.Native.Nat.{_*_, _/_}
 use mathlib.Core.Path.{_≡_}
 use Rattle.clefia_spec.specs.Network.{network}

@@ -1,4 +1,3 @@
--- `cipher_network4_four_way::rotate_right_each` meets its contract.
 use borrow.Author.Needs.{needs}
 use Rattle.cipher_network4_four_way.proofs.rotate_right_each.Statement.{statement}
 use Rattle.cipher_network4_four_way.proofs.rotate_right_each.Tie as tie

@@ -1,4 +1,3 @@
--- `cipher_network4_four_way::undo_by_two` meets its contract.
 use Prim.Native.Nat.{_+_, _-_, _*_, _≤_}
 use mathlib.Core.Path.{_≡_, refl, _∙_}
 use borrow.Author.Needs.{needs}

@@ -1,4 +1,3 @@
--- `cipher_network4_four_way::undo_round_of_state` meets its contract.
 use borrow.Author.Needs.{needs}
 use Rattle.clefia_spec.specs.Network.{feistel, rotateBranches}
 use Rattle.cipher_bytes.specs.ListLaws.{spelled, spell}

@@ -1,4 +1,3 @@
--- `cipher_network4_four_way::undo_two_rounds` meets its contract.
 use Prim.Native.Nat.{_+_}
 use borrow.Author.Needs.{needs}
 use Rattle.cipher_network4_four_way.specs.Four.{last-key, two-undone}

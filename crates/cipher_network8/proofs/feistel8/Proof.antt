@@ -1,4 +1,3 @@
--- `cipher_network8::feistel8` meets its contract.
 use native.Mathlib.Nat.{add-assoc}
 use borrow.Author.Needs.{needs}
 use Rattle.clefia_spec.specs.Network.{feistel}

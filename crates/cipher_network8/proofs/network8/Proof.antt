@@ -1,4 +1,3 @@
--- `cipher_network8::network8` meets its contract.
 use Prim.Native.Nat.{_+_, _*_, _≤_, _<_}
 use mathlib.Core.Path.{_≡_, _∙_, ap}
 use lib.ListN.{length}

@@ -1,4 +1,3 @@
--- `cipher_network8::rotate_left8` meets its contract.
 use borrow.Author.Needs.{needs}
 use Rattle.clefia_spec.specs.Network.{rotateBranches}
 use Rattle.cipher_bytes.specs.ListLaws.{spelled, spell}

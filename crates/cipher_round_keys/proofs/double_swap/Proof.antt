@@ -1,4 +1,3 @@
--- `cipher_round_keys::double_swap` meets its contract.
 use mathlib.Core.Path.{sym}
 use borrow.Author.Needs.{needs}
 use Rattle.cipher_bytes.specs.ListLaws.{spelled, spell}

@@ -1,4 +1,3 @@
--- `cipher_round_keys::round_keys` meets its contract.
 use Prim.Native.Nat.{_+_, _-_, _*_, _≤_}
 use mathlib.Core.Bool.{true, false}
 use mathlib.Core.List.{_++_}

@@ -1,4 +1,3 @@
--- `cipher_round_keys::step` meets its contract.
 use borrow.Author.Needs.{needs}
 use Rattle.cipher_round_keys.proofs.step.Statement.{statement}
 use Rattle.cipher_round_keys.proofs.step.Tie as tie

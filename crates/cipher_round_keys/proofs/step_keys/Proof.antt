@@ -1,4 +1,3 @@
--- `cipher_round_keys::step_keys` meets its contract.
 use borrow.Author.Needs.{needs}
 use borrow.Author.Tests.{eq-eqb, ne-eqb}
 use Rattle.clefia_spec.specs.Words.{fourAt}

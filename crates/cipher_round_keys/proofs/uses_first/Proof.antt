@@ -1,4 +1,3 @@
--- `cipher_round_keys::uses_first` meets its contract.
 use Rattle.cipher_round_keys.specs.Steps.{always-first, first-by-turns}
 use Rattle.cipher_round_keys.proofs.uses_first.Statement.{statement}
 use Rattle.cipher_round_keys.proofs.uses_first.Tie as tie

@@ -1,4 +1,3 @@
--- `cipher_sbox::by_rule` meets its contract.
 use native.Mathlib.Omega.{arith}
 use mathlib.Core.Path.{_≡_}
 use Rattle.cipher_sbox.specs.Boxes.{box}

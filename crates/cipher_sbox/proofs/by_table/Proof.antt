@@ -1,4 +1,3 @@
--- `cipher_sbox::by_table` meets its contract.
 use Rattle.cipher_sbox.specs.Boxes.{byteTables-at, length-byteTables}
 use borrow.Author.Needs.{needs}
 use Rattle.cipher_sbox.proofs.by_table.Statement.{statement}

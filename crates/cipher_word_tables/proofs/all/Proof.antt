@@ -1,4 +1,3 @@
--- `cipher_word_tables::all` meets its contract.
 use Rattle.cipher_gf256.specs.Values.{values}
 use Rattle.cipher_ffunction.specs.Tables.{wordTables}
 use borrow.Author.Needs.{needs}

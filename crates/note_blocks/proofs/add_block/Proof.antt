@@ -1,4 +1,3 @@
--- `note_blocks::add_block` meets its contract.
 use borrow.Author.Needs.{needs}
 use Rattle.note_blocks.proofs.add_block.Statement.{statement}
 use Rattle.note_blocks.proofs.add_block.Tie as tie

@@ -1,4 +1,3 @@
--- `note_blocks::add_words` meets its contract.
 use borrow.Author.Needs.{needs}
 use Rattle.clefia_spec.specs.Words.{toDigits, digitsOf, xors}
 use Rattle.cipher_bytes.specs.ListLaws.{spelled, spell, putFour, wordAt, four-words}

@@ -1,4 +1,3 @@
--- `note_blocks::counter_state` meets its contract.
 use borrow.Author.Needs.{needs}
 use Rattle.note_blocks.specs.Counter.{counterState}
 use Rattle.note_blocks.proofs.counter_state.Statement.{statement}

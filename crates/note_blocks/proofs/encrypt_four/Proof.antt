@@ -1,4 +1,3 @@
--- `note_blocks::encrypt_four` meets its contract.
 use borrow.Author.Needs.{needs}
 use Rattle.note_blocks.proofs.encrypt_four.Statement.{statement}
 use Rattle.note_blocks.proofs.encrypt_four.Tie as tie

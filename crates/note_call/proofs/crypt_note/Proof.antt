@@ -30,11 +30,11 @@ returns-3 c =
 
 write-note-requires : tie.Need-write-note-requires
 write-note-requires c κs =
-    let s : tie.Start = c .before .before .before .before .before .before .before .before .before in
     let t : tie.Else3 = c .before .before in
+    let s : tie.Start = t .before .before .before .before .before .before .before in
     let bytes : Below 256 (s .args .counter .now) =
     below-all (s .args .counter .now)
-    (λ j h. c .before .before .before .before .before .before .before .shared-slice-known2 .given j .fits) in (
+    (λ j h. t .before .before .before .before .before .shared-slice-known2 .given j .fits) in (
       s .pre .0,
       record {
         words = s .pre .1;
@@ -48,12 +48,11 @@ write-note-requires c κs =
 returns-4 : tie.Need-returns-4
 unfolding cryptNoteBy noteChecks blockCheck outputCheck noteCheck
 returns-4 c =
-    let s : tie.Start = c .before .before .before .before .before .before .before .before .before .before .before
-    .before in
     let t : tie.Else3 = c .before .before .before .before .before in
+    let s : tie.Start = t .before .before .before .before .before .before .before in
     let bytes : Below 256 (s .args .counter .now) =
     below-all (s .args .counter .now)
-    (λ j h. c .before .before .before .before .before .before .before .before .before .before
+    (λ j h. t .before .before .before .before .before
     .shared-slice-known2 .given j .fits) in
     let e : bytesOf (c .before .before .before .before .load .result) ≡ s .args .counter .now =
     rw (c .before .before .before .before .load .ensures)

@@ -23,8 +23,7 @@ loop-holds c = (refl, c .before .before .write-fours .ensures .0, c .before .bef
 add-block-requires : tie.Need-add-block-requires Inv-loop μ-loop
 add-block-requires c κs =
     let a : tie.At-loop Inv-loop μ-loop = c .before .before .before .before in
-    let s : tie.Start Inv-loop μ-loop = c .before .before .before .before .before .before .before .before .before
-    .before .before .before in
+    let s : tie.Start Inv-loop μ-loop = a .before .before .before .before .before .before .before .before in
     let h : a .loop .at + 16 ≤ length (s .args .note .now) = search needs in (
       h,
       omega (
@@ -37,25 +36,21 @@ add-block-requires c κs =
 add-i : tie.Need-add-i Inv-loop μ-loop
 add-i c =
     let a : tie.At-loop Inv-loop μ-loop = c .before .before .before .before .before .before .before in
-    let s : tie.Start Inv-loop μ-loop = c .before .before .before .before .before .before .before .before .before
-    .before .before .before .before .before .before in
+    let s : tie.Start Inv-loop μ-loop = a .before .before .before .before .before .before .before .before in
     omega (arith, a .loop .inv .0, a .loop .inv .1, s .pre .1 .short)
 
 loop-again : tie.Need-loop-again Inv-loop μ-loop
 loop-again c =
-    let a : tie.At-loop Inv-loop μ-loop = c .before .before .before .before .before .before .before in
-    let s : tie.Start Inv-loop μ-loop = c .before .before .before .before .before .before .before .before .before
-    .before .before .before .before .before .before in
+    let t : tie.After-encrypt-words Inv-loop μ-loop = c .before .before .before .before in
+    let a : tie.At-loop Inv-loop μ-loop = t .before .before .before in
+    let s : tie.Start Inv-loop μ-loop = a .before .before .before .before .before .before .before .before in
     let words : Below (2 ^ 32) (s .args .expanded .now) =
     below-all (s .args .expanded .now)
-    (λ j h. c .before .before .before .before .before .before .before .before .before .before .before .before
-    .before .before .shared-slice-known .given j .fits) in
+    (λ j h. a .before .before .before .before .before .before .before .shared-slice-known .given j .fits) in
     let bytes : Below 256 (s .args .note .now) =
     below-all (s .args .note .now)
-    (λ j h. c .before .before .before .before .before .before .before .before .before .before .before .before
-    .before .shared-slice-known2 .given j .fits) in
-    let h : a .loop .at + 16 ≤ length (s .args .note .now) = search needs in
-    let t : tie.After-encrypt-words Inv-loop μ-loop = c .before .before .before .before in (
+    (λ j h. a .before .before .before .before .before .before .shared-slice-known2 .given j .fits) in
+    let h : a .loop .at + 16 ≤ length (s .args .note .now) = search needs in (
       omega (arith, a .loop .inv .0),
       h,
       note-filled-block words (s .pre .1 .state) bytes (a .loop .at) (a .loop .i) (a .loop .inv .0) h

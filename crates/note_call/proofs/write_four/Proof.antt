@@ -12,23 +12,19 @@ use Rattle.note_call.proofs.write_four.Tie as tie
 
 returns : tie.Need-returns
 returns c f =
-    let s : tie.Start = c .before .before .before .before .before .before .before .before .before .before .before
-    .before .before .before .before .before .before .before .before .before .before .before .before .before in
+    let d : tie.After-encrypt-four = c .before .before .before .before .before .before .before .before .before .before .before .before .before .before .before .before .before .before .before .before in
+    let s : tie.Start = d .before .before .before .before in
     let i = s .args .i in
     let r : NoteReady (s .args .expanded .now) (s .args .counter) (s .args .note .now) (s .args .out .now) =
     s .pre .1 .0 in
     let words : Below (2 ^ 32) (s .args .expanded .now) =
     below-all (s .args .expanded .now)
-    (λ j h. c .before .before .before .before .before .before .before .before .before .before .before .before
-    .before .before .before .before .before .before .before .before .before .before .before
+    (λ j h. d .before .before .before
     .shared-slice-known .given j .fits) in
     let bytes : Below 256 (s .args .note .now) =
     below-all (s .args .note .now)
-    (λ j h. c .before .before .before .before .before .before .before .before .before .before .before .before
-    .before .before .before .before .before .before .before .before .before .before .shared-slice-known2
+    (λ j h. d .before .before .shared-slice-known2
     .given j .fits) in
-    let d : tie.After-encrypt-four = c .before .before .before .before .before .before .before .before .before .before
-    .before .before .before .before .before .before .before .before .before .before in
     let p : 16 * i + 64 ≡ 16 * i + 16 + 16 + 16 + 16 = omega arith in
     rw p
     (note-filled-block words (r .state) bytes (16 * i + 16 + 16 + 16) (i + 3) (omega arith) (omega arith)

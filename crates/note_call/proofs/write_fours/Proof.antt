@@ -29,7 +29,7 @@ loop-holds c =
 write-four-requires : tie.Need-write-four-requires Inv-loop μ-loop
 write-four-requires c κs =
     let a : tie.At-loop Inv-loop μ-loop = c .before .before in
-    let s : tie.Start Inv-loop μ-loop = c .before .before .before .before .before .before .before in (
+    let s : tie.Start Inv-loop μ-loop = a .before .before .before .before .before in (
       s .pre .0,
       (
         note-ready-again (s .args .expanded .now) (s .args .counter) (s .args .note .now) (s .pre .1)
@@ -41,8 +41,7 @@ write-four-requires c κs =
 add-i : tie.Need-add-i Inv-loop μ-loop
 add-i c =
     let a : tie.At-loop Inv-loop μ-loop = c .before .before .before .before .before in
-    let s : tie.Start Inv-loop μ-loop = c .before .before .before .before .before .before .before .before .before
-    .before in
+    let s : tie.Start Inv-loop μ-loop = a .before .before .before .before .before in
     omega (arith, a .loop .inv .0, s .pre .1 .short)
 
 loop-again : tie.Need-loop-again Inv-loop μ-loop

@@ -18,18 +18,14 @@ returns c =
 
 returns-2 : tie.Need-returns-2
 returns-2 c =
-    let s : tie.Start = c .before .before .before .before .before .before .before .before .before .before .before
-    .before .before .before .before in
-    let w : tie.After-write-blocks = c .before .before .before .before .before .before .before .before .before
-    .before in
+    let w : tie.After-write-blocks = c .before .before .before .before .before .before .before .before .before .before in
+    let s : tie.Start = w .before .before .before .before .before in
     let words : Below (2 ^ 32) (s .args .expanded .now) =
     below-all (s .args .expanded .now)
-    (λ j h. c .before .before .before .before .before .before .before .before .before .before .before .before
-    .before .before .shared-slice-known .given j .fits) in
+    (λ j h. w .before .before .before .before .shared-slice-known .given j .fits) in
     let bytes : Below 256 (s .args .note .now) =
     below-all (s .args .note .now)
-    (λ j h. c .before .before .before .before .before .before .before .before .before .before .before .before
-    .before .shared-slice-known2 .given j .fits) in
+    (λ j h. w .before .before .before .shared-slice-known2 .given j .fits) in
     note-filled-rest words (s .pre .1 .state) bytes _ (w .write-blocks .result) refl
     (omega (
       arith,

@@ -1,4 +1,3 @@
--- `page_text::digit` meets its contract.
 use borrow.Author.Needs.{needs}
 use borrow.Author.Tests.{eq-eqb, ne-eqb}
 use Rattle.page_text.specs.Digits.{shownDigit}

@@ -1,4 +1,3 @@
--- `book_chain::Chain::crypt` meets its contract.
 use borrow.Author.Needs.{needs}
 use Rattle.book_chain.proofs.Chain.crypt.Statement.{statement}
 use Rattle.book_chain.proofs.Chain.crypt.Tie as tie

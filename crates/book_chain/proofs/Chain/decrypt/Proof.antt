@@ -1,4 +1,3 @@
--- `book_chain::Chain::decrypt` meets its contract.
 use borrow.Author.Needs.{needs}
 use Rattle.book_chain.proofs.Chain.decrypt.Statement.{statement}
 use Rattle.book_chain.proofs.Chain.decrypt.Tie as tie

@@ -1,4 +1,3 @@
--- `book_chain::Chain::encrypt` meets its contract.
 use borrow.Author.Needs.{needs}
 use Rattle.book_chain.proofs.Chain.encrypt.Statement.{statement}
 use Rattle.book_chain.proofs.Chain.encrypt.Tie as tie

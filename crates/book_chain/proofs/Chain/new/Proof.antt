@@ -1,4 +1,3 @@
--- `book_chain::Chain::new` meets its contract.
 use borrow.Author.Needs.{needs}
 use Rattle.book_chain.proofs.Chain.new.Statement.{statement}
 use Rattle.book_chain.proofs.Chain.new.Tie as tie

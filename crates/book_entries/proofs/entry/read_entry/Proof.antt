@@ -1,4 +1,3 @@
--- `book_entries::entry::read_entry` meets its contract.
 use Rattle.book_entries.specs.EntryLaws.{entry-good, entry-broken}
 use mathlib.Core.Path.{refl}
 use borrow.Author.Needs.{needs}

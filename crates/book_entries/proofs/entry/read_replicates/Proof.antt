@@ -1,4 +1,3 @@
--- `book_entries::entry::read_replicates` meets its contract.
 use borrow.Author.Tests.{ne-eqb}
 use Rattle.planbook_spec.specs.Book.{replicates}
 use borrow.Author.Needs.{needs}

@@ -1,4 +1,3 @@
--- `book_entries::entry::read_sheet` meets its contract.
 use Rattle.planbook_spec.specs.Book.{number}
 use borrow.Author.Needs.{needs}
 use Rattle.book_entries.proofs.entry.read_sheet.Statement.{statement}

@@ -1,4 +1,3 @@
--- `book_entries::record::plot_holds` meets its contract.
 use mathlib.Core.Path.{refl}
 use Rattle.planbook_spec.specs.Book.{plotHolds}
 use borrow.Author.Needs.{needs}

@@ -1,4 +1,3 @@
--- `book_entries::record::record_holds` meets its contract.
 use mir.Syntax.{w32}
 use Prim.Native.Nat.{ℕ, _^_, _<_}
 use mathlib.Core.Path.{ap}

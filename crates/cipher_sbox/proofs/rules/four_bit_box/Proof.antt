@@ -1,4 +1,3 @@
--- `cipher_sbox::rules::four_bit_box` meets its contract.
 use mathlib.Core.Path.{refl}
 use Rattle.clefia_spec.specs.Sbox.{ss0, ss1, ss2, ss3}
 use Rattle.cipher_sbox.specs.Rules.{fourBitBoxes, four-bits}

@@ -1,4 +1,3 @@
--- `cipher_sbox::rules::inverse` meets its contract.
 use mathlib.Core.Path.{_≡_, _∙_}
 use Rattle.cipher_sbox.specs.Rules.{power14, inverseBySubfield, inverse-subfield}
 use borrow.Author.Needs.{needs}

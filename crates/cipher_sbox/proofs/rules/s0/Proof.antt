@@ -1,4 +1,3 @@
--- `cipher_sbox::rules::s0` meets its contract.
 use lib.Bits.{xor-lt}
 use Rattle.clefia_spec.specs.Sbox.{s0}
 use Rattle.cipher_sbox.specs.Rules.{fourBitBoxes}

@@ -1,4 +1,3 @@
--- `cipher_sbox::rules::s1` meets its contract.
 use Rattle.clefia_spec.specs.Sbox.{s1}
 use Rattle.cipher_sbox.specs.Rules.{fByColumns, gByColumns, f-columns, g-columns}
 use borrow.Author.Needs.{needs}

@@ -1,4 +1,3 @@
--- `cipher_tables::boxes::byte_tables` meets its contract.
 use Rattle.cipher_gf256.specs.Values.{values}
 use Rattle.cipher_sbox.specs.Boxes.{byteTables}
 use borrow.Author.Needs.{needs}
