@@ -22,7 +22,11 @@ use call_answer::Answer;
 fn kind(decrypting: bool) -> u8
     ensures { λ r. ⌜ r ≡ kindOf decrypting ⌝ }
 {
-    if decrypting { 2 } else { 1 }
+    if decrypting {
+        book_format::SEALED
+    } else {
+        book_format::CLEAR
+    }
 }
 
 // The other book.

@@ -30,7 +30,7 @@ fn clear_records_hold(book: &[u8]) -> bool
 pub fn check_clear_book(book: &[u8]) -> Answer
     ensures { λ r. ⌜ r ≡ bookAnswer 1 asItIs (now (book .entry)) ⌝ }
 {
-    let form = book_form::check_form(1, book);
+    let form = book_form::check_form(book_format::CLEAR, book);
     let Answer::Accepted(records) = form else {
         return form;
     };

@@ -51,7 +51,7 @@ pub fn check_encrypted_book(
     requires { ⌜ CipherReady (now «word_tables») (now «byte_tables») (now expanded) ⌝ }
     ensures { λ r. ⌜ r ≡ bookAnswer 2 (decryptBody (decryptUnder (now (expanded .entry)))) (now (book .entry)) ⌝ }
 {
-    let form = book_form::check_form(2, book);
+    let form = book_form::check_form(book_format::SEALED, book);
     let Answer::Accepted(records) = form else {
         return form;
     };

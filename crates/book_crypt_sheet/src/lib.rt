@@ -12,7 +12,7 @@ ghost use Rattle.book_chain.specs.ChainLaws.{Chained};
 ghost use Rattle.book_chain.specs.Crypt.{cryptedBody};
 ghost use Rattle.book_crypt_sheet.specs.ClearWritten.{ClearWritten};
 use book_chain::Chain;
-use book_numbers::u16_at;
+use book_format::u16_at;
 use cipher_block_four_way::decrypt_four;
 use cipher_ffunction::has_word_tables;
 

@@ -3,7 +3,7 @@ ghost use mathlib.Core.Path.{_≡_};
 ghost use lib.ListN.{length};
 ghost use Rattle.planbook_spec.specs.Book.{replicates};
 ghost use Rattle.book_entries.specs.Entry.{sheetOf, entryOf};
-use book_numbers::u16_at;
+use book_format::u16_at;
 
 pub struct Sheet {
     pub trial: u32,
@@ -23,7 +23,11 @@ fn read_replicates(entry: &[u8]) -> u32
     requires { ⌜ length (now entry) ≡ 24 ⌝ }
     ensures { λ r. ⌜ r ≡ replicates (now (entry .entry)) ⌝ }
 {
-    if entry[6] == 0 { 4 } else { entry[6] as u32 }
+    if entry[6] == 0 {
+        book_format::DEFAULT_REPLICATES
+    } else {
+        entry[6] as u32
+    }
 }
 
 // The sheet that an entry describes, whether it holds or not.
@@ -47,8 +51,8 @@ pub fn read_entry(entry: &[u8], previous: u32) -> Entry
     // `&` tries every test, which leaves the proof one way to follow.
     if (previous < sheet.trial)
         & (1 <= sheet.count)
-        & (sheet.count <= 1024)
-        & (sheet.replicates <= 8)
+        & (sheet.count <= book_format::MAX_SHEET_RECORDS)
+        & (sheet.replicates <= book_format::MAX_REPLICATES)
         & (entry[7] == 0)
     {
         Entry::Good(sheet)

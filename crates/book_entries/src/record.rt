@@ -16,7 +16,11 @@ fn plot_holds(third: u32, fourth: u32) -> bool
 {
     let row = third / 256 % 65536;
     let column = third % 256 * 256 + fourth / 16777216;
-    (row == 0) & (column == 0) | (1 <= row) & (row <= 999) & (1 <= column) & (column <= 999)
+    (row == 0) & (column == 0)
+        | (1 <= row)
+            & (row <= book_format::MAX_ROW)
+            & (1 <= column)
+            & (column <= book_format::MAX_COLUMN)
 }
 
 // What holds of a record, on its four words: trial; entry; replicate, row and the high byte of the
@@ -46,7 +50,7 @@ pub fn clear_sheet_holds(entry: &[u8], body: &[u8]) -> bool
         if !record_holds(sheet, cipher_bytes::load(body, at)) {
             return false;
         }
-        at += 16;
+        at += book_format::RECORD_BYTES;
         left -= 1;
     }
     true

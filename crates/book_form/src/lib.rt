@@ -9,13 +9,13 @@ ghost use Rattle.planbook_spec.specs.Book.{sheetCount};
 ghost use Rattle.book_form.specs.Form.{headAnswer, contentsAnswer, formAnswer};
 use book_entries::entry;
 use book_entries::entry::Entry;
-use book_numbers::u16_at;
+use book_format::u16_at;
 use call_answer::Answer;
 
 fn sized(book: &[u8]) -> bool
     ensures { λ r. ⌜ r ≡ (leb 4 (length (now (book .entry))) && leb (length (now (book .entry))) 65532) ⌝ }
 {
-    4 <= book.len() && book.len() <= 65532
+    book_format::HEAD_BYTES <= book.len() && book.len() <= book_format::MAX_BOOK_BYTES
 }
 
 fn headed(kind: u8, book: &[u8]) -> bool
@@ -36,10 +36,10 @@ pub fn check_head(kind: u8, book: &[u8]) -> Answer
         return Answer::Refused(6);
     }
     let sheets = u16_at(book, 2);
-    if 64 < sheets {
+    if book_format::MAX_SHEETS < sheets {
         return Answer::Refused(7);
     }
-    if book.len() < 4 + 24 * sheets {
+    if book.len() < book_format::HEAD_BYTES + book_format::ENTRY_BYTES * sheets {
         return Answer::Refused(8);
     }
     Answer::Accepted(sheets as u64)
@@ -52,10 +52,10 @@ fn check_contents(book: &[u8], sheets: usize) -> Answer
 {
     let mut previous = 0;
     let mut records: usize = 0;
-    let mut at = 4;
+    let mut at = book_format::HEAD_BYTES;
     let mut left = sheets;
     while 0 < left {
-        let end = at + 24;
+        let end = at + book_format::ENTRY_BYTES;
         let Entry::Good(sheet) = entry::read_entry(&book[at..end], previous) else {
             return Answer::Refused(9);
         };
@@ -64,7 +64,7 @@ fn check_contents(book: &[u8], sheets: usize) -> Answer
         at = end;
         left -= 1;
     }
-    if book.len() != at + 16 * records {
+    if book.len() != at + book_format::RECORD_BYTES * records {
         return Answer::Refused(10);
     }
     Answer::Accepted(records as u64)

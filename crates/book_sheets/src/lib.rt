@@ -3,7 +3,7 @@ ghost use Prim.Native.Nat.{_≤_, _<_};
 ghost use Rattle.planbook_spec.specs.Book.{sheetCount};
 ghost use Rattle.planbook_laws.specs.BookLaws.{Formed};
 ghost use Rattle.book_sheets.specs.Cursors.{Placed, First, Next, Reached};
-use book_numbers::u16_at;
+use book_format::u16_at;
 
 pub struct Cursor {
     // Where the entry of the next sheet begins, and where its body does.
@@ -20,8 +20,8 @@ pub fn first(book: &[u8]) -> Cursor
 {
     let left = u16_at(book, 2);
     Cursor {
-        from: 4,
-        at: 4 + 24 * left,
+        from: book_format::HEAD_BYTES,
+        at: book_format::HEAD_BYTES + book_format::ENTRY_BYTES * left,
         left,
     }
 }
@@ -33,8 +33,8 @@ pub fn next(book: &[u8], cursor: Cursor) -> Cursor
 {
     let from = cursor.from;
     Cursor {
-        from: from + 24,
-        at: cursor.at + 16 * u16_at(book, from + 4),
+        from: from + book_format::ENTRY_BYTES,
+        at: cursor.at + book_format::RECORD_BYTES * u16_at(book, from + 4),
         left: cursor.left - 1,
     }
 }

@@ -8,7 +8,7 @@ ghost use Rattle.planbook_spec.specs.Book.{sheetCount};
 ghost use Rattle.planbook_spec.specs.Page.{page as Page·page, lineCount, pageCall};
 ghost use Rattle.planbook_laws.specs.BookLaws.{Formed};
 ghost use Rattle.call_answer.specs.Answer.{Answered};
-use book_numbers::u16_at;
+use book_format::u16_at;
 use call_answer::Answer;
 
 // Check 4, and then the page of a sheet that there is. The count is that of the lines.
@@ -22,7 +22,7 @@ fn sheet_page(book: &[u8], sheet: usize, out: &mut [u8]) -> Answer
     let following = book_sheets::next(book, cursor);
     let at = cursor.at;
     let end = following.at;
-    let count = (end - at) / 16;
+    let count = (end - at) / book_format::RECORD_BYTES;
     if out.len() != 32 * (count + 1) {
         return Answer::Refused(4);
     }

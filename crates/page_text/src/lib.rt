@@ -7,7 +7,7 @@ ghost use lib.ListN.{length, take};
 ghost use Rattle.planbook_spec.specs.Book.{pieces};
 ghost use Rattle.planbook_spec.specs.Page.{numberField, heading, line, lines};
 ghost use Rattle.page_text.specs.Digits.{shownDigit};
-use book_numbers::u16_at;
+use book_format::u16_at;
 
 // The last digit of a number, or a space where no digit is left.
 fn digit(rest: usize) -> u8
@@ -85,7 +85,7 @@ pub fn write_page(body: &[u8], count: usize, out: &mut [u8])
     let mut to = 32;
     let mut left = count;
     while 0 < left {
-        let end = at + 16;
+        let end = at + book_format::RECORD_BYTES;
         let next = to + 32;
         write_line(&body[at..end], &mut out[to..next]);
         at = end;

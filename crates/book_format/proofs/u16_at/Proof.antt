@@ -1,8 +1,8 @@
 use mathlib.Core.Path.{sym, _∙_}
 use Rattle.planbook_laws.specs.WalkLaws.{number-two}
 use borrow.Author.Needs.{needs}
-use Rattle.book_numbers.proofs.u16_at.Statement.{statement}
-use Rattle.book_numbers.proofs.u16_at.Tie as tie
+use Rattle.book_format.proofs.u16_at.Statement.{statement}
+use Rattle.book_format.proofs.u16_at.Tie as tie
 
 returns : tie.Need-returns
 returns c =
