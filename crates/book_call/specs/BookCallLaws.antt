@@ -17,7 +17,7 @@ use Rattle.planbook_spec.specs.Book.{mapBodies, bookChecks}
 use Rattle.planbook_laws.specs.WalkLaws.{mapBodies-front, bodies-at}
 use Rattle.book_form.specs.BookAnswer.{bookAnswer}
 use Rattle.planbook_laws.specs.BookLaws.{Formed, formed}
-use Rattle.call_answer.specs.Judging.{stopped, Went, went, answered-refused, answered-accepted}
+use Rattle.call_answer.specs.Judging.{stopped, GroupPassed, group-passed, answered-refused, answered-accepted}
 use Rattle.book_chain.specs.Crypt.{cryptedBody}
 use Rattle.book_call.specs.Directions.{kindOf, clearBody, cryptedBook}
 
@@ -49,9 +49,9 @@ module _ (decrypting : Bool) (w book : List ℕ) where
           (after-output _ ∙ stopped (formAndRecords _ _ book) (recordCount (contents book)) _ (sym h ∙ e)))
 
       module _ {records : ℕ} (e : Accepted records ≡ bookAnswer (kindOf decrypting) (clearBody decrypting w) book) where
-        passed-book : Went (formAndRecords (kindOf decrypting) (clearBody decrypting w) book)
+        passed-book : GroupPassed (formAndRecords (kindOf decrypting) (clearBody decrypting w) book)
             (recordCount (contents book)) records
-        passed-book = went (formAndRecords (kindOf decrypting) (clearBody decrypting w) book)
+        passed-book = group-passed (formAndRecords (kindOf decrypting) (clearBody decrypting w) book)
             (recordCount (contents book)) e
 
         pub checked-formed : Formed book

@@ -28,7 +28,7 @@ use Rattle.book_chain.specs.Chain.{encryptStep, decryptStep}
 pub length-bytes : {s : List ℕ} → Words 4 s → length (bytesOf s) ≡ 16
 length-bytes {s} h = length-digitsOf 256 4 s ∙ ap (λ (n : ℕ). n * 4) (h .size)
 
--- ---- one step, under words w; p went before, and bs begins with the block
+-- ---- one step, under words w; p group-passed before, and bs begins with the block
 
 module _ {w p bs : List ℕ} (words : Below (2 ^ 32) w) (before : Words 4 p) (bytes : Below 256 bs)
     (long : 16 ≤ length bs) where

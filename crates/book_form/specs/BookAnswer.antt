@@ -6,7 +6,7 @@ use mathlib.Core.List.{List, [], _∷_}
 use Rattle.call_answer.specs.declared.Answer.{Answer}
 use Rattle.call_answer.specs.declared.Answer.the-variants.{Accepted, Refused}
 use Rattle.call_answer.specs.Answer.{answerOf}
-use Rattle.call_answer.specs.Judging.{stopped-first, passed-first, Went, went}
+use Rattle.call_answer.specs.Judging.{stopped-first, passed-first, GroupPassed, group-passed}
 use Rattle.planbook_spec.specs.Outcome.{accepted, check, judged}
 use Rattle.planbook_spec.specs.Book.{contents, bodies, recordCount, formChecks, sheetsHold, recordsCheck}
 use Rattle.planbook_spec.specs.Book.{formAndRecords}
@@ -24,8 +24,8 @@ module _ (kind : ℕ) (f : List ℕ → List ℕ → List ℕ) (book : List ℕ)
       ∙ sym (ap answerOf (stopped-first (formChecks kind book) _ (recordCount (contents book)) _ (sym h ∙ e)))
 
   module _ {records : ℕ} (e : Accepted records ≡ formAnswer kind book) where
-    passed-form : Went (formChecks kind book) (recordCount (contents book)) records
-    passed-form = went (formChecks kind book) (recordCount (contents book)) e
+    passed-form : GroupPassed (formChecks kind book) (recordCount (contents book)) records
+    passed-form = group-passed (formChecks kind book) (recordCount (contents book)) e
 
     pub form-formed : Formed book
     form-formed = formed kind book (passed-form .checks)

@@ -11,7 +11,7 @@ use Rattle.planbook_spec.specs.Outcome.{accepted}
 use Rattle.planbook_spec.specs.OutcomeLaws.{AllPass, pass-head, pass-tail}
 use Rattle.planbook_spec.specs.Book.{sheetCount, formChecks}
 use Rattle.book_form.specs.Form.{headAnswer, contentsAnswer, formAnswer}
-use Rattle.call_answer.specs.Judging.{stopped-first, passed-first, Went, went}
+use Rattle.call_answer.specs.Judging.{stopped-first, passed-first, GroupPassed, group-passed}
 
 -- What passed checks say of a book's sizes.
 pub record HeadFits (book : List ℕ) : Type 0 where
@@ -41,7 +41,7 @@ module _ (kind : ℕ) (book : List ℕ) {r : Answer} where
 pub head-formed : (kind : ℕ) (book : List ℕ) {sheets : ℕ} → Accepted sheets ≡ headAnswer kind book
     → (sheets ≡ sheetCount book) × (sheets ≤ 64) × (4 + 24 * sheets ≤ length book)
 head-formed kind book e =
-    let w : Went (take 4 (formChecks kind book)) (sheetCount book) _ =
-    went (take 4 (formChecks kind book)) (sheetCount book) e in
+    let w : GroupPassed (take 4 (formChecks kind book)) (sheetCount book) _ =
+    group-passed (take 4 (formChecks kind book)) (sheetCount book) e in
     let f : HeadFits book = head-fits kind book (w .checks) in
     (w .same, rw (w .same) (f .few), rw (w .same) (f .long))

@@ -20,16 +20,16 @@ stopped (check d true ∷ cs) n o e = stopped cs n o e
 stopped (check d false ∷ cs) n o e = cc
 
 -- What is known of a group that passed: all of it passed, and the count is the one that it gives.
-pub record Went (cs : List Check) (n m : ℕ) : Type 0 where
+pub record GroupPassed (cs : List Check) (n m : ℕ) : Type 0 where
   pub checks : AllPass cs
   pub same : m ≡ n
 
-pub went : (cs : List Check) (n : ℕ) {m : ℕ} → Accepted m ≡ answerOf (judged cs (accepted n [])) → Went cs n m
+pub group-passed : (cs : List Check) (n : ℕ) {m : ℕ} → Accepted m ≡ answerOf (judged cs (accepted n [])) → GroupPassed cs n m
 unfolding judged
-went [] n e = record { checks = none; same = cc }
-went (check d true ∷ cs) n {m} e = let w : Went cs n m = went cs n e in
+group-passed [] n e = record { checks = none; same = cc }
+group-passed (check d true ∷ cs) n {m} e = let w : GroupPassed cs n m = group-passed cs n e in
     record { checks = more (w .checks); same = w .same }
-went (check d false ∷ cs) n e = let z : _≡_ {A = ℕ} 0 1 = cc in absurd (omega arith)
+group-passed (check d false ∷ cs) n e = let z : _≡_ {A = ℕ} 0 1 = cc in absurd (omega arith)
 
 -- Two groups.
 pub stopped-first : (cs ds : List Check) (n : ℕ) {c : ℕ} (o : Outcome)

@@ -8,7 +8,7 @@ use lib.ListN.{length}
 use Rattle.clefia_spec.specs.Words.{bytesOf, byKeyLength, KeyLength, sixteen, twentyFour, thirtyTwo}
 use Rattle.clefia_spec.specs.KeySchedule.{expandKey}
 use Rattle.call_answer.specs.Answer.{Answered}
-use Rattle.call_answer.specs.Judging.{Went, went}
+use Rattle.call_answer.specs.Judging.{GroupPassed, group-passed}
 use Rattle.call_answer.specs.declared.Answer.{Answer}
 use Rattle.call_answer.specs.declared.Answer.the-variants.{Accepted}
 use Rattle.planbook_spec.specs.OutcomeLaws.{AllPass}
@@ -31,7 +31,7 @@ pub record KeyPassed (key : List ℕ) (n : ℕ) : Type 0 where
 pub key-passed : (key : List ℕ) {n : ℕ} → Accepted n ≡ keyAnswer key → KeyPassed key n
 unfolding expandedCount
 key-passed key {n} e =
-    let w : Went (keyCheck (length key) ∷ []) (expandedCount (length key)) n = went (keyCheck (length key) ∷ []) _ e in
+    let w : GroupPassed (keyCheck (length key) ∷ []) (expandedCount (length key)) n = group-passed (keyCheck (length key) ∷ []) _ e in
     record { checks = w .checks; long = key-permitted (w .checks); count = w .same }
 
 -- What is left of the call once checks 1 and 2 are passed.

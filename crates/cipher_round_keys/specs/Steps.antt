@@ -21,9 +21,9 @@ pub data Period : ℕ → Type 0 where
 pub always-first : (i : ℕ) {period : ℕ} → period ≡ 2 → true ≡ ltb (i % period) 2
 always-first i e = rw e (sym (lt-ltb (i % 2) 2 (omega arith)))
 
-pub first-by-turns : (i : ℕ) {period : ℕ} → Period period → (period ≡ 2 → ⊥) → ltb (i % 4) 2 ≡ ltb (i % period) 2
-first-by-turns i always h = absurd (h refl)
-first-by-turns i turns h = refl
+pub first-alternately : (i : ℕ) {period : ℕ} → Period period → (period ≡ 2 → ⊥) → ltb (i % 4) 2 ≡ ltb (i % period) 2
+first-alternately i always h = absurd (h refl)
+first-alternately i turns h = refl
 
 -- The round keys of the steps that are left, at least one: those of step i, and the rest.
 module _ (period base : ℕ) (con : List ℕ) (i : ℕ) (k k′ l l′ : List ℕ) where

@@ -12,7 +12,7 @@ use Rattle.planbook_laws.specs.BookLaws.{Formed, formed}
 use Rattle.call_answer.specs.declared.Answer.{Answer}
 use Rattle.call_answer.specs.declared.Answer.the-variants.{Accepted, Refused}
 use Rattle.call_answer.specs.Answer.{Answered}
-use Rattle.call_answer.specs.Judging.{refused-by, passed-first, went, answered-refused, answered-same}
+use Rattle.call_answer.specs.Judging.{refused-by, passed-first, group-passed, answered-refused, answered-same}
 use Rattle.book_form.specs.BookAnswer.{bookAnswer}
 
 pub wrong-book : (book : List ℕ) (i : ℕ) (out : List ℕ) {r : Answer} {c : ℕ} → r ≡ bookAnswer 1 asItIs book
@@ -22,7 +22,7 @@ wrong-book book i out e h = refused-by (formAndRecords 1 asItIs book) _ (recordC
 
 module _ (book : List ℕ) {records : ℕ} (e : Accepted records ≡ bookAnswer 1 asItIs book) where
   checked : AllPass (formAndRecords 1 asItIs book)
-  checked = went (formAndRecords 1 asItIs book) (recordCount (contents book)) e .checks
+  checked = group-passed (formAndRecords 1 asItIs book) (recordCount (contents book)) e .checks
 
   pub book-formed : Formed book
   book-formed = formed 1 book (pass-left (formChecks 1 book) _ checked)

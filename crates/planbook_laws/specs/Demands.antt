@@ -135,32 +135,32 @@ module _ (words : List ℕ) (bytes : Below 256 words) (way way′ : ℕ) (permit
 
 -- Under one key: the first call is given words of the key, and the second one the same or those
 -- that were expanded once more, by whichever way.
-module _ (key : List ℕ) {words words′ : List ℕ} (lent : Expanded key words) (lent′ : Expanded key words′) (way way′ : ℕ)
+module _ (key : List ℕ) {words words′ : List ℕ} (made : Expanded key words) (made′ : Expanded key words′) (way way′ : ℕ)
     (permitted : Way way′) where
   same : words′ ≡ words
-  same = same-words lent′ lent
+  same = same-words made′ made
 
   pub demand2-decrypts : (book out out′ : List ℕ) {n : ℕ} {encrypted : List ℕ} → Below 256 book
       → encryptBookCall words way book out ≡ accepted n encrypted
       → length out′ ≡ length book → decryptBookCall words′ way′ encrypted out′ ≡ accepted n book
   demand2-decrypts book out out′ r a e = rw same
-      (demand2-decrypts-under words (expanded-bytes lent) way way′ permitted book out out′ r a e)
+      (demand2-decrypts-under words (expanded-bytes made) way way′ permitted book out out′ r a e)
 
   pub demand2-encrypts : (book out out′ : List ℕ) {n : ℕ} {decrypted : List ℕ} → Below 256 book
       → decryptBookCall words way book out ≡ accepted n decrypted
       → length out′ ≡ length book → encryptBookCall words′ way′ decrypted out′ ≡ accepted n book
   demand2-encrypts book out out′ r a e = rw same
-      (demand2-encrypts-under words (expanded-bytes lent) way way′ permitted book out out′ r a e)
+      (demand2-encrypts-under words (expanded-bytes made) way way′ permitted book out out′ r a e)
 
   pub demand2-block-decrypts : (block out out′ : List ℕ) {n : ℕ} {bs : List ℕ} → Below 256 block → length out′ ≡ 16
       → encryptBlockCall words way block out ≡ accepted n bs → decryptBlockCall words′ way′ bs out′ ≡ accepted n block
   demand2-block-decrypts block out out′ r e a =
-      rw same (demand2-block-decrypts-under words (expanded-bytes lent) way way′ permitted block out out′ r e a)
+      rw same (demand2-block-decrypts-under words (expanded-bytes made) way way′ permitted block out out′ r e a)
 
   pub demand2-block-encrypts : (block out out′ : List ℕ) {n : ℕ} {bs : List ℕ} → Below 256 block → length out′ ≡ 16
       → decryptBlockCall words way block out ≡ accepted n bs → encryptBlockCall words′ way′ bs out′ ≡ accepted n block
   demand2-block-encrypts block out out′ r e a =
-      rw same (demand2-block-encrypts-under words (expanded-bytes lent) way way′ permitted block out out′ r e a)
+      rw same (demand2-block-encrypts-under words (expanded-bytes made) way way′ permitted block out out′ r e a)
 
 -- ---- demand 3: of two clear books a and b that sealing accepts under the same words, each by
 -- whichever way. A sealed book is the whole output afterwards; E is what each must be made by.
@@ -198,10 +198,10 @@ pub demand3 : (key : List ℕ) → Below 256 key → {words words′ : List ℕ}
     → EncryptedAlike (encrypt key) a b (after out (encryptBookCall words way a out))
     (after out′ (encryptBookCall words′ way′ b out′))
 unfolding encrypt
-demand3 key bytes {words} lent lent′ way way′ a b out out′ ra rb pa pb =
-    rw (same-words lent′ lent)
-    (rw (words-expanded bytes lent) at
-    (demand3-under words (expanded-bytes lent) way way′ a b out out′ ra rb pa (rw (same-words lent′ lent) at pb)))
+demand3 key bytes {words} made made′ way way′ a b out out′ ra rb pa pb =
+    rw (same-words made′ made)
+    (rw (words-expanded bytes made) at
+    (demand3-under words (expanded-bytes made) way way′ a b out out′ ra rb pa (rw (same-words made′ made) at pb)))
 
 -- The empty book, under any words of a permitted count and by any way: it is sealed to its head
 -- with another first byte, with the count 0.

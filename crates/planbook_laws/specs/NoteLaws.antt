@@ -187,21 +187,21 @@ module _ (words : List ℕ) (way way′ : ℕ) (counter : List ℕ) where
   notes-alike-under = crypted-alike _ (wordsAndWay words way) (wordsAndWay words way′) counter
 
 -- The same under one key, whose words were expanded for each of the two calls by whichever way.
-module _ (key : List ℕ) {words words′ : List ℕ} (lent : Expanded key words) (lent′ : Expanded key words′) (way way′ : ℕ)
+module _ (key : List ℕ) {words words′ : List ℕ} (made : Expanded key words) (made′ : Expanded key words′) (way way′ : ℕ)
     (counter : List ℕ) where
   pub note-comes-back : Way way′ → (note out out′ : List ℕ) {n : ℕ} {bs : List ℕ}
       → cryptNoteCall words way counter note out ≡ accepted n bs → length out′ ≡ length note
       → cryptNoteCall words′ way′ counter bs out′ ≡ accepted n note
   note-comes-back permitted note out out′ a e =
-      rw (same-words lent′ lent) (note-comes-back-under words way way′ counter permitted note out out′ a e)
+      rw (same-words made′ made) (note-comes-back-under words way way′ counter permitted note out out′ a e)
 
   pub notes-alike : (a b out out′ : List ℕ) → Accepted (cryptNoteCall words way counter a out)
       → Accepted (cryptNoteCall words′ way′ counter b out′)
       → (after out (cryptNoteCall words way counter a out) ≡ after out′ (cryptNoteCall words′ way′ counter b out′))
       ↔ (a ≡ b)
   notes-alike a b out out′ pa pb =
-      rw (same-words lent′ lent) (notes-alike-under words way way′ counter a b out out′ pa
-      (rw (same-words lent′ lent) at pb))
+      rw (same-words made′ made) (notes-alike-under words way way′ counter a b out out′ pa
+      (rw (same-words made′ made) at pb))
 
 -- Within one note no counter block comes twice.
 pub note-counters-differ : (words : List ℕ) (way : ℕ) (counter note out : List ℕ) {n : ℕ} {bs : List ℕ}

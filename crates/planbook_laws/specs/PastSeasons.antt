@@ -269,14 +269,14 @@ module _ {rule : PastRule} (season : Season rule) (cs : List Check) {cs′ : Lis
 -- The calls of past seasons took the key. Today's are given the words that were expanded for it,
 -- and may go by another way.
 module _ {rule : PastRule} (season : Season rule) (key : List ℕ) (bytes : Below 256 key) {words : List ℕ}
-    (lent : Expanded key words) (way : ℕ) {way′ : ℕ} (permitted : Way way′) (book out : List ℕ) {n : ℕ}
+    (made : Expanded key words) (way : ℕ) {way′ : ℕ} (permitted : Way way′) (book out : List ℕ) {n : ℕ}
     {bs : List ℕ} where
   pub past-accepted-encrypts : pastEncryptBookBy rule (keyAndWay key way) (encrypt key) book out ≡ accepted n bs
       → encryptBookCall words way′ book out ≡ choose (plotsHold asItIs book) (accepted n bs) (refused 11)
   unfolding pastEncryptBookBy encryptBookBy
   past-accepted-encrypts a =
       let p : Passed _ _ n _ bs = passed _ _ _ a in
-      encryptBook-under-key bytes lent way′ book out
+      encryptBook-under-key bytes made way′ book out
       ∙ past-judged season (keyAndWay key way) 1 asItIs book out _ (p .checks) (way-passes permitted)
       ∙ rw (p .sameCount, p .sameBytes)
 
@@ -286,6 +286,6 @@ module _ {rule : PastRule} (season : Season rule) (key : List ℕ) (bytes : Belo
   unfolding pastDecryptBookBy decryptBookBy
   past-accepted-decrypts a =
       let p : Passed _ _ n _ bs = passed _ _ _ a in
-      decryptBook-under-key bytes lent way′ book out
+      decryptBook-under-key bytes made way′ book out
       ∙ past-judged season (keyAndWay key way) 2 (decryptBody (decrypt key)) book out _ (p .checks)
       (way-passes permitted) ∙ rw (p .sameCount, p .sameBytes)

@@ -228,37 +228,37 @@ pub expanded-received : (key : List ℕ) (way : ℕ) (out : List ℕ) {r : ℕ} 
 expanded-received key way out a small = expanded way out (accepts (readable-expandKey key way out) a small)
 
 -- What a call answers under them, it answers under those that were expanded once more.
-module _ {key words words′ : List ℕ} (lent : Expanded key words) (lent′ : Expanded key words′) (o : List ℕ → Outcome)
+module _ {key words words′ : List ℕ} (made : Expanded key words) (made′ : Expanded key words′) (o : List ℕ → Outcome)
     {out : List ℕ} {r : ℕ} {exit : List ℕ} where
   as-first : Answers (o words′) out r exit → Answers (o words) out r exit
-  as-first a = rw (same-words lent lent′) a
+  as-first a = rw (same-words made made′) a
 
-module _ (key : List ℕ) {words words′ : List ℕ} (lent : Expanded key words) (lent′ : Expanded key words′) (way way′ : ℕ)
+module _ (key : List ℕ) {words words′ : List ℕ} (made : Expanded key words) (made′ : Expanded key words′) (way way′ : ℕ)
     (permitted : Way way′) (src out out′ : List ℕ) (below : Below 256 src) {r r′ : ℕ} {exit exit′ : List ℕ}
     (small : r < 2 ^ 32) where
   pub demand2-decrypts-received : Answers (encryptBookCall words way src out) out r exit → length out′ ≡ length src
       → Answers (decryptBookCall words′ way′ exit out′) out′ r′ exit′ → (r′ ≡ r) × (exit′ ≡ src)
   demand2-decrypts-received a e b =
-      demand2-decrypts-under-received words (expanded-bytes lent) way way′ permitted src out out′ below small a e
-      (as-first lent lent′ (λ (w : List ℕ). decryptBookCall w way′ exit out′) b)
+      demand2-decrypts-under-received words (expanded-bytes made) way way′ permitted src out out′ below small a e
+      (as-first made made′ (λ (w : List ℕ). decryptBookCall w way′ exit out′) b)
 
   pub demand2-encrypts-received : Answers (decryptBookCall words way src out) out r exit → length out′ ≡ length src
       → Answers (encryptBookCall words′ way′ exit out′) out′ r′ exit′ → (r′ ≡ r) × (exit′ ≡ src)
   demand2-encrypts-received a e b =
-      demand2-encrypts-under-received words (expanded-bytes lent) way way′ permitted src out out′ below small a e
-      (as-first lent lent′ (λ (w : List ℕ). encryptBookCall w way′ exit out′) b)
+      demand2-encrypts-under-received words (expanded-bytes made) way way′ permitted src out out′ below small a e
+      (as-first made made′ (λ (w : List ℕ). encryptBookCall w way′ exit out′) b)
 
   pub demand2-block-decrypts-received : Answers (encryptBlockCall words way src out) out r exit → length out′ ≡ 16
       → Answers (decryptBlockCall words′ way′ exit out′) out′ r′ exit′ → (r′ ≡ r) × (exit′ ≡ src)
   demand2-block-decrypts-received a e b =
-      demand2-block-decrypts-under-received words (expanded-bytes lent) way way′ permitted src out out′ below small a e
-      (as-first lent lent′ (λ (w : List ℕ). decryptBlockCall w way′ exit out′) b)
+      demand2-block-decrypts-under-received words (expanded-bytes made) way way′ permitted src out out′ below small a e
+      (as-first made made′ (λ (w : List ℕ). decryptBlockCall w way′ exit out′) b)
 
   pub demand2-block-encrypts-received : Answers (decryptBlockCall words way src out) out r exit → length out′ ≡ 16
       → Answers (encryptBlockCall words′ way′ exit out′) out′ r′ exit′ → (r′ ≡ r) × (exit′ ≡ src)
   demand2-block-encrypts-received a e b =
-      demand2-block-encrypts-under-received words (expanded-bytes lent) way way′ permitted src out out′ below small a e
-      (as-first lent lent′ (λ (w : List ℕ). encryptBlockCall w way′ exit out′) b)
+      demand2-block-encrypts-under-received words (expanded-bytes made) way way′ permitted src out out′ below small a e
+      (as-first made made′ (λ (w : List ℕ). encryptBlockCall w way′ exit out′) b)
 
 pub demand3-received : (key : List ℕ) → Below 256 key → {words words′ : List ℕ} → Expanded key words
     → Expanded key words′ → (way way′ : ℕ) (a b out out′ : List ℕ) → Below 256 a → Below 256 b
@@ -266,26 +266,26 @@ pub demand3-received : (key : List ℕ) → Below 256 key → {words words′ : 
     → Answers (encryptBookCall words way a out) out r x → r < 2 ^ 32
     → Answers (encryptBookCall words′ way′ b out′) out′ r′ y → r′ < 2 ^ 32 → EncryptedAlike (encrypt key) a b x y
 unfolding encrypt
-demand3-received key bytes {words} lent lent′ way way′ a b out out′ ra rb pa ha pb hb =
-    rw (words-expanded bytes lent) at
-    (demand3-under-received words (expanded-bytes lent) way way′ a b out out′ ra rb pa ha
-    (as-first lent lent′ (λ (w : List ℕ). encryptBookCall w way′ b out′) pb) hb)
+demand3-received key bytes {words} made made′ way way′ a b out out′ ra rb pa ha pb hb =
+    rw (words-expanded bytes made) at
+    (demand3-under-received words (expanded-bytes made) way way′ a b out out′ ra rb pa ha
+    (as-first made made′ (λ (w : List ℕ). encryptBookCall w way′ b out′) pb) hb)
 
-module _ (key : List ℕ) {words words′ : List ℕ} (lent : Expanded key words) (lent′ : Expanded key words′) (way way′ : ℕ)
+module _ (key : List ℕ) {words words′ : List ℕ} (made : Expanded key words) (made′ : Expanded key words′) (way way′ : ℕ)
     (counter : List ℕ) {r r′ : ℕ} {x y : List ℕ} where
   pub note-comes-back-received : Way way′ → (note out out′ : List ℕ)
       → Answers (cryptNoteCall words way counter note out) out r x → r < 2 ^ 32 → length out′ ≡ length note
       → Answers (cryptNoteCall words′ way′ counter x out′) out′ r′ y → (r′ ≡ r) × (y ≡ note)
   note-comes-back-received permitted note out out′ a h e b =
       note-comes-back-under-received words way way′ counter permitted note out out′ a h e
-      (as-first lent lent′ (λ (w : List ℕ). cryptNoteCall w way′ counter x out′) b)
+      (as-first made made′ (λ (w : List ℕ). cryptNoteCall w way′ counter x out′) b)
 
   pub notes-alike-received : (a b out out′ : List ℕ) → Answers (cryptNoteCall words way counter a out) out r x
       → r < 2 ^ 32
       → Answers (cryptNoteCall words′ way′ counter b out′) out′ r′ y → r′ < 2 ^ 32 → (x ≡ y) ↔ (a ≡ b)
   notes-alike-received a b out out′ pa ha pb hb =
       notes-alike-under-received words way way′ counter a b out out′ pa ha
-      (as-first lent lent′ (λ (w : List ℕ). cryptNoteCall w way′ counter b out′) pb) hb
+      (as-first made made′ (λ (w : List ℕ). cryptNoteCall w way′ counter b out′) pb) hb
 
 -- ---- pages: those of two sheets are equal exactly where their bodies are
 

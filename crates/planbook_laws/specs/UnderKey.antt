@@ -42,12 +42,12 @@ expanded-bytes {key} e = subst (Below 256) (expanded-is e) (below-digitsOf (lit<
 
 -- How many words they are, and that a call reads exactly the definition's words out of the bytes.
 module _ {key words : List ℕ} (bytes : Below 256 key) (e : Expanded key words) where
-  row : Words (byKeyLength (length key) 40 48 56) (expandKey key)
-  row = words-expandKey (expanded-key e) bytes
+  expanded-words : Words (byKeyLength (length key) 40 48 56) (expandKey key)
+  expanded-words = words-expandKey (expanded-key e) bytes
 
   byte-count : length words ≡ byKeyLength (length key) 40 48 56 * 4
   byte-count = ap length (sym (expanded-is e)) ∙ length-digitsOf 256 4 (expandKey key)
-      ∙ ap (λ (n : ℕ). n * 4) (row .size)
+      ∙ ap (λ (n : ℕ). n * 4) (expanded-words .size)
 
   pub expanded-permitted : WordsLength (length words)
   expanded-permitted = subst WordsLength (sym byte-count) (permitted (expanded-key e))
@@ -60,8 +60,8 @@ module _ {key words : List ℕ} (bytes : Below 256 key) (e : Expanded key words)
   pub words-expanded : wordsFromBytes words ≡ expandKey key
   unfolding wordsFromBytes
   words-expanded =
-      let count : length words / 4 ≡ length (expandKey key) = omega (arith, byte-count, row .size) in
-      rw (count, ← expanded-is e) (numbers-digits (lit< tt) 4 (row .below))
+      let count : length words / 4 ≡ length (expandKey key) = omega (arith, byte-count, expanded-words .size) in
+      rw (count, ← expanded-is e) (numbers-digits (lit< tt) 4 (expanded-words .below))
 
   -- Check 14 is passed, so it may be left out.
   words-left-out : (way : ℕ) (cs : List Check) (o : Outcome)

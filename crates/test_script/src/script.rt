@@ -123,7 +123,7 @@ fn find_name(name: &[u8], names: &[u8]) -> usize {
 fn number_of(name: &[u8]) -> usize {
     find_name(
         name,
-        b",constants,expand key,encrypt block,decrypt block,encrypt book,decrypt book,seal,key ,way ,size ,block ,case,mark,book ,put ,flip ,keep,exchange,say,compare,hex,again,crypt note,counter ,page,sheet ,prepare ,lend ,damage ,",
+        b",constants,expand key,encrypt block,decrypt block,encrypt book,decrypt book,seal,key ,way ,size ,block ,case,mark,book ,put ,flip ,keep,exchange,say,compare,hex,again,crypt note,counter ,page,sheet ,prepare ,words ,damage ,",
     )
 }
 

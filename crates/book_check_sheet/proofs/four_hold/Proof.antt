@@ -12,7 +12,8 @@ use Rattle.book_check_sheet.proofs.four_hold.Tie as tie
 
 returns : tie.Need-returns
 returns c e left known size o h =
-    let d : tie.After-decrypt-four = c .before .before .before .before .before .before .before .before .before .before .before in
+    let d : tie.After-decrypt-four = c .before .before .before .before .before .before .before .before .before .before
+    .before in
     let s : tie.Start = d .before .before .before in
     let at = s .args .at in
     let words : Below (2 ^ 32) (s .args .expanded .now) =

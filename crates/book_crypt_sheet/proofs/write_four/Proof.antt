@@ -26,7 +26,8 @@ write-clear-requires-4 c κs =
 
 returns : tie.Need-returns
 returns c e left size k h =
-    let d : tie.After-decrypt-four = c .before .before .before .before .before .before .before .before .before .before .before .before .before .before .before .before .before .before .before .before in
+    let d : tie.After-decrypt-four = c .before .before .before .before .before .before .before .before .before .before
+    .before .before .before .before .before .before .before .before .before .before in
     let s : tie.Start = d .before .before .before .before in
     let at = s .args .at in
     let words : Below (2 ^ 32) (s .args .expanded .now) =

@@ -1,7 +1,7 @@
 use mathlib.Core.Path.{sym, _∙_}
 use lib.ListN.{take}
 use Rattle.planbook_spec.specs.Book.{sheetCount, formChecks}
-use Rattle.call_answer.specs.Judging.{went}
+use Rattle.call_answer.specs.Judging.{group-passed}
 use Rattle.book_form.specs.FormLaws.{head-formed, form-stopped, form-passed}
 use borrow.Author.Needs.{needs}
 use Rattle.book_form.proofs.check_form.Statement.{statement}
@@ -18,7 +18,7 @@ returns-2 : tie.Need-returns-2
 returns-2 c =
     let a : tie.After-known-told = c .before in
     form-passed (a .before .before .before .before .before .args .kind) _
-    (went (take 4 (formChecks _ _)) (sheetCount _)
+    (group-passed (take 4 (formChecks _ _)) (sheetCount _)
     (sym (a .before .head .given .1) ∙ a .before .before .before .check-head .ensures) .checks)
     (c .check-contents .ensures)
 

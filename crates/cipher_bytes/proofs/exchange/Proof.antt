@@ -16,7 +16,8 @@ returns c =
     record {
       read =
           rw (
-            w4 .before .before .before .before .before .before .before .before .before .before .before .before .word .ensures,
+            w4 .before .before .before .before .before .before .before .before .before .before .before .before .word
+                .ensures,
             w4 .before .before .before .before .before .before .before .word2 .ensures,
             w4 .before .before .word3 .ensures,
             c .word4 .ensures,

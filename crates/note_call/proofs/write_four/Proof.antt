@@ -12,7 +12,8 @@ use Rattle.note_call.proofs.write_four.Tie as tie
 
 returns : tie.Need-returns
 returns c f =
-    let d : tie.After-encrypt-four = c .before .before .before .before .before .before .before .before .before .before .before .before .before .before .before .before .before .before .before .before in
+    let d : tie.After-encrypt-four = c .before .before .before .before .before .before .before .before .before .before
+    .before .before .before .before .before .before .before .before .before .before in
     let s : tie.Start = d .before .before .before .before in
     let i = s .args .i in
     let r : NoteReady (s .args .expanded .now) (s .args .counter) (s .args .note .now) (s .args .out .now) =

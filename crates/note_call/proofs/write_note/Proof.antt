@@ -18,7 +18,8 @@ returns c =
 
 returns-2 : tie.Need-returns-2
 returns-2 c =
-    let w : tie.After-write-blocks = c .before .before .before .before .before .before .before .before .before .before in
+    let w : tie.After-write-blocks = c .before .before .before .before .before .before .before .before .before
+    .before in
     let s : tie.Start = w .before .before .before .before .before in
     let words : Below (2 ^ 32) (s .args .expanded .now) =
     below-all (s .args .expanded .now)
