@@ -24,7 +24,8 @@ pub record GroupPassed (cs : List Check) (n m : ℕ) : Type 0 where
   pub checks : AllPass cs
   pub same : m ≡ n
 
-pub group-passed : (cs : List Check) (n : ℕ) {m : ℕ} → Accepted m ≡ answerOf (judged cs (accepted n [])) → GroupPassed cs n m
+pub group-passed : (cs : List Check) (n : ℕ) {m : ℕ} → Accepted m ≡ answerOf (judged cs (accepted n []))
+    → GroupPassed cs n m
 unfolding judged
 group-passed [] n e = record { checks = none; same = cc }
 group-passed (check d true ∷ cs) n {m} e = let w : GroupPassed cs n m = group-passed cs n e in

@@ -31,7 +31,8 @@ pub record KeyPassed (key : List ℕ) (n : ℕ) : Type 0 where
 pub key-passed : (key : List ℕ) {n : ℕ} → Accepted n ≡ keyAnswer key → KeyPassed key n
 unfolding expandedCount
 key-passed key {n} e =
-    let w : GroupPassed (keyCheck (length key) ∷ []) (expandedCount (length key)) n = group-passed (keyCheck (length key) ∷ []) _ e in
+    let w : GroupPassed (keyCheck (length key) ∷ []) (expandedCount (length key)) n =
+    group-passed (keyCheck (length key) ∷ []) _ e in
     record { checks = w .checks; long = key-permitted (w .checks); count = w .same }
 
 -- What is left of the call once checks 1 and 2 are passed.

@@ -26,7 +26,8 @@ pub record WordsPassed (words : List ℕ) (n : ℕ) : Type 0 where
 
 pub words-passed : (words : List ℕ) {n : ℕ} → Accepted n ≡ wordsAnswer words → WordsPassed words n
 words-passed words {n} e =
-    let w : GroupPassed (wordsCheck (length words) ∷ []) (length words / 4) n = group-passed (wordsCheck (length words) ∷ []) _ e in
+    let w : GroupPassed (wordsCheck (length words) ∷ []) (length words / 4) n =
+    group-passed (wordsCheck (length words) ∷ []) _ e in
     let s : (length words ≡ 4 * n) × (4 ≤ n) × (n ≤ 56) = rw (w .same) (sizes (words-permitted (w .checks))) in
     record { checks = w .checks; bytes = s .0; least = s .1; most = s .2 }
   where
