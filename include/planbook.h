@@ -146,7 +146,7 @@
 extern "C" {
 #endif
 
-#define PLANBOOK_VERSION "3.0.0"
+#define PLANBOOK_VERSION "3.1.0"
 
 /* Not part of the interface: a cast that neither language warns of, and the compiler's attributes.
  */
