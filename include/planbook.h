@@ -92,7 +92,7 @@
  * - have the digest of the sealed file (sha256sum) sent by another way than the file, and compare
  *   the two before opening.
  *
- * A COUNTER BLOCK SERVES ONCE
+ * A COUNTER BLOCK IS USED ONCE
  *
  * Under one key no counter block may ever serve twice, neither for two notes nor for two versions
  * of one note. Where it does, the exclusive or of the two sealed notes is that of the two texts:
@@ -334,7 +334,7 @@ PLANBOOK_MUST_USE uint64_t planbook_decrypt_book(const uint8_t *words, size_t wo
 
 /*
  * Seals a note, or opens a sealed one: counter mode is its own inverse, so both are this call, with
- * the same words and the same counter block. Read "A counter block serves once" above before the
+ * the same words and the same counter block. Read "A counter block is used once" above before the
  * first use.
  *
  * The note is exclusive-ored with the encrypted counter blocks. The first is the one given; in each
