@@ -193,7 +193,7 @@ static struct bytes expanded_key(const struct arguments *given, uint64_t way)
  * A call for a book under the key given; what the library refuses of the book is reported by
  * refuse_book.
  */
-static struct bytes recode(const struct arguments *given, book_call *call, struct bytes book,
+static struct bytes crypt_book(const struct arguments *given, book_call *call, struct bytes book,
                            void refuse_book(const char *, struct bytes, uint32_t))
 {
     uint64_t way = given_way(given);
@@ -222,7 +222,7 @@ static struct bytes crypt_note(const struct arguments *given, struct bytes count
 
 static struct bytes opened(const struct arguments *given, struct bytes book)
 {
-    return recode(given, planbook_decrypt_book, book, refuse_sealed_book);
+    return crypt_book(given, planbook_decrypt_book, book, refuse_sealed_book);
 }
 
 /* Verbs */
@@ -286,7 +286,7 @@ void run_seal(const struct arguments *given)
              "contents",
              input_title(name));
     }
-    struct bytes sealed = recode(given, planbook_encrypt_book, book, refuse_clear_book);
+    struct bytes sealed = crypt_book(given, planbook_encrypt_book, book, refuse_clear_book);
     if (!from_plan)
         warn_of_start_blocks(input_title(name), book);
     release(&book);

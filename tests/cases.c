@@ -194,8 +194,8 @@ static size_t field_number(generator *g, size_t most)
 
 static void put_plot(uint8_t *record, size_t row, size_t column)
 {
-    store_half(record + 9, row);
-    store_half(record + 11, column);
+    store_u16(record + 9, row);
+    store_u16(record + 11, column);
 }
 
 static void make_plot(generator *g, uint8_t *record)
@@ -223,7 +223,7 @@ size_t make_clear_book(generator *g, const book_shape *shape, uint8_t *book)
     uint32_t trial = 0;
     book[0] = CLEAR_BOOK;
     book[1] = 0;
-    store_half(book + 2, shape->sheets);
+    store_u16(book + 2, shape->sheets);
     for (size_t i = 0; i < shape->sheets; i++) {
         uint8_t *entry = entry_at(book, i);
         uint32_t most = random_chance(g, 4) ? UINT32_MAX / 100 : 3;
@@ -231,7 +231,7 @@ size_t make_clear_book(generator *g, const book_shape *shape, uint8_t *book)
         if (i + 1 == shape->sheets && random_chance(g, 8))
             trial = UINT32_MAX;
         reference_store_word(entry, trial);
-        store_half(entry + 4, shape->counts[i]);
+        store_u16(entry + 4, shape->counts[i]);
         entry[6] = (uint8_t)(random_chance(g, 3) ? 0 : random_between(g, 1, MAX_REPLICATES));
         entry[7] = 0;
         random_fill(g, entry + 8, REFERENCE_BLOCK);
@@ -333,8 +333,8 @@ static void damage_entry(generator *g, uint8_t *book)
     size_t i = random_below(g, sheets_of(book));
     uint8_t *entry = entry_at(book, i);
     switch (random_below(g, 7)) {
-    case 0: store_half(entry + 4, 0); break;
-    case 1: store_half(entry + 4, just_above(g, MAX_RECORDS)); break;
+    case 0: store_u16(entry + 4, 0); break;
+    case 1: store_u16(entry + 4, just_above(g, MAX_RECORDS)); break;
     case 2: entry[6] = byte_above(g, MAX_REPLICATES); break;
     case 3: entry[7] = (uint8_t)random_between(g, 1, 255); break;
     case 4:
@@ -366,7 +366,7 @@ static void damage_head(generator *g, uint8_t *book)
 static void damage_sheet_number(generator *g, uint8_t *book)
 {
     if (sheets_of(book) <= MAX_SHEETS)
-        store_half(book + 2, just_above(g, MAX_SHEETS));
+        store_u16(book + 2, just_above(g, MAX_SHEETS));
 }
 
 static size_t damage_length(generator *g, uint8_t *book, size_t len)
@@ -376,7 +376,7 @@ static size_t damage_length(generator *g, uint8_t *book, size_t len)
     switch (random_below(g, 4)) {
     case 0:
         if (sheets_of(book) > 0) {
-            store_half(entry_at(book, random_below(g, sheets_of(book))) + 4,
+            store_u16(entry_at(book, random_below(g, sheets_of(book))) + 4,
                        random_between(g, 1, MAX_RECORDS));
             return len;
         }
@@ -413,7 +413,7 @@ static size_t damage_contents_length(generator *g, uint8_t *book, size_t len)
                                          : random_between(g, HEAD_LENGTH, contents_end - 1);
         return cut < len ? cut : len;
     }
-    store_half(book + 2, random_between(g, too_many, too_many + 2));
+    store_u16(book + 2, random_between(g, too_many, too_many + 2));
     return len;
 }
 
@@ -629,7 +629,7 @@ void make_random_case(generator *g, call_kind kind, test_case *c)
     if (call_is_book(kind) && in->input_len >= HEAD_LENGTH && !random_chance(g, 4)) {
         c->input[0] = (uint8_t)(kind == CALL_DECRYPT_BOOK ? SEALED_BOOK : CLEAR_BOOK);
         c->input[1] = 0;
-        store_half(c->input + 2, random_below(g, 4));
+        store_u16(c->input + 2, random_below(g, 4));
     }
     in->out_len = reference_output_length(in);
     if (random_chance(g, 8) || in->out_len == 0)

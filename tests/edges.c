@@ -197,7 +197,7 @@ static void new_overfull_book(size_t sheets, size_t len)
 {
     new_book(sheets, 1);
     for (size_t i = 0; i < sheets; i++)
-        store_half(entry(i) + 4, MAX_RECORDS);
+        store_u16(entry(i) + 4, MAX_RECORDS);
     if (len > book_len)
         random_fill(&random_source, book + book_len, len - book_len);
     book_len = len;

@@ -9,7 +9,7 @@ static unsigned bit(int check)
     return 1u << check;
 }
 
-static size_t load_half(const uint8_t *bytes)
+static size_t load_u16(const uint8_t *bytes)
 {
     return (size_t)bytes[0] << 8 | bytes[1];
 }
@@ -76,7 +76,7 @@ static const uint8_t *entry_of(const book_view *book, size_t i)
 
 static size_t count_of(const book_view *book, size_t i)
 {
-    return load_half(entry_of(book, i) + 4);
+    return load_u16(entry_of(book, i) + 4);
 }
 
 static size_t contents_end(const book_view *book)
@@ -86,7 +86,7 @@ static size_t contents_end(const book_view *book)
 
 static book_view view_book(const uint8_t *bytes, size_t len)
 {
-    book_view book = {bytes, len, load_half(bytes + 2), 0, 0};
+    book_view book = {bytes, len, load_u16(bytes + 2), 0, 0};
     book.entries = (len - HEAD_LENGTH) / ENTRY_LENGTH;
     if (book.entries > book.sheets)
         book.entries = book.sheets;
@@ -223,7 +223,7 @@ static int record_holds(const uint8_t *record, const uint8_t *entry)
 {
     return memcmp(record, entry, 4) == 0 && reference_load_word(record + 4) != 0 &&
            record[8] >= 1 && record[8] <= reference_replicates(entry) &&
-           plot_holds(load_half(record + 9), load_half(record + 11)) && record[13] == 0 &&
+           plot_holds(load_u16(record + 9), load_u16(record + 11)) && record[13] == 0 &&
            record[14] == 0 && record[15] == 0;
 }
 
@@ -303,7 +303,7 @@ static void write_line(const uint8_t *record, uint8_t *out)
     int len = snprintf(text, sizeof text, "%10lu %10lu %1u %3u %3u\n",
                        (unsigned long)reference_load_word(record),
                        (unsigned long)reference_load_word(record + 4), record[8],
-                       (unsigned)load_half(record + 9), (unsigned)load_half(record + 11));
+                       (unsigned)load_u16(record + 9), (unsigned)load_u16(record + 11));
     if (len != LINE_LENGTH) {
         fprintf(stderr, "reference: a line of %d bytes\n", len);
         exit(2);

@@ -18,12 +18,12 @@ int check_of(uint64_t answer)
     return (int)(answer >> 32);
 }
 
-size_t load_half(const uint8_t *bytes)
+size_t load_u16(const uint8_t *bytes)
 {
     return (size_t)bytes[0] << 8 | bytes[1];
 }
 
-void store_half(uint8_t *bytes, size_t value)
+void store_u16(uint8_t *bytes, size_t value)
 {
     bytes[0] = (uint8_t)(value >> 8);
     bytes[1] = (uint8_t)value;
@@ -31,7 +31,7 @@ void store_half(uint8_t *bytes, size_t value)
 
 size_t sheets_of(const uint8_t *book)
 {
-    return load_half(book + 2);
+    return load_u16(book + 2);
 }
 
 size_t contents_length(const uint8_t *book)
@@ -46,7 +46,7 @@ uint8_t *entry_at(uint8_t *book, size_t i)
 
 size_t records_of(const uint8_t *entry)
 {
-    return load_half(entry + 4);
+    return load_u16(entry + 4);
 }
 
 uint8_t *record_at(uint8_t *book, size_t j)

@@ -24,8 +24,8 @@ uint64_t refusal(int check);
 int check_of(uint64_t answer);
 
 /* Numbers of two bytes, the highest first. */
-size_t load_half(const uint8_t *bytes);
-void store_half(uint8_t *bytes, size_t value);
+size_t load_u16(const uint8_t *bytes);
+void store_u16(uint8_t *bytes, size_t value);
 
 /* What a book says, and where its parts are. Records are counted over all sheets. */
 size_t sheets_of(const uint8_t *book);
