@@ -19,8 +19,8 @@ bookAnswer kind f book = answerOf (judged (formAndRecords kind f book) (accepted
 
 -- A wrong form; and, once the form holds, the records.
 module _ (kind : ℕ) (f : List ℕ → List ℕ → List ℕ) (book : List ℕ) where
-  pub form-stopped : {r : Answer} {c : ℕ} → r ≡ formAnswer kind book → r ≡ Refused c → r ≡ bookAnswer kind f book
-  form-stopped e h = h
+  pub book-stopped : {r : Answer} {c : ℕ} → r ≡ formAnswer kind book → r ≡ Refused c → r ≡ bookAnswer kind f book
+  book-stopped e h = h
       ∙ sym (ap answerOf (stopped-first (formChecks kind book) _ (recordCount (contents book)) _ (sym h ∙ e)))
 
   module _ {records : ℕ} (e : Accepted records ≡ formAnswer kind book) where

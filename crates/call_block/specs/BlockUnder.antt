@@ -17,12 +17,12 @@ unfoldable pub blockUnder : Bool → List ℕ → List ℕ → List ℕ → Outc
 blockUnder d w block out = judged (blockChecks [] block out) (accepted 1 (cryptUnder d w block))
 
 -- The block by the test that the code made.
-pub decrypted : {d : Bool} (w block : List ℕ) {exit : List ℕ} → d ≡ true → exit ≡ decryptUnder w block
+pub block-decrypted : {d : Bool} (w block : List ℕ) {exit : List ℕ} → d ≡ true → exit ≡ decryptUnder w block
     → exit ≡ cryptUnder d w block
 unfolding cryptUnder
-decrypted w block e g = rw e g
+block-decrypted w block e g = rw e g
 
-pub encrypted : {d : Bool} (w block : List ℕ) {exit : List ℕ} → d ≡ false → exit ≡ encryptUnder w block
+pub block-encrypted : {d : Bool} (w block : List ℕ) {exit : List ℕ} → d ≡ false → exit ≡ encryptUnder w block
     → exit ≡ cryptUnder d w block
 unfolding cryptUnder
-encrypted w block e g = rw e g
+block-encrypted w block e g = rw e g

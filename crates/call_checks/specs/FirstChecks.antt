@@ -25,8 +25,8 @@ module _ (k : Check) (way : ℕ) (ds : List Check) (o : Outcome) (out : List ℕ
     way-refuses h = answered-refused out (passed-first (k ∷ []) (wayCheck way ∷ ds) o p
         ∙ judged-false (sym e ∙ not-true t h) 2 ds o)
 
-    pub way-passes : not t ≡ false → {r : Answer} {exit : List ℕ} → Answered (judged ds o) out r exit
+    pub way-accepts : not t ≡ false → {r : Answer} {exit : List ℕ} → Answered (judged ds o) out r exit
         → Answered (judged (k ∷ wayCheck way ∷ ds) o) out r exit
     unfolding wayCheck
-    way-passes h g = answered-same (passed-first (k ∷ []) (wayCheck way ∷ ds) o p
+    way-accepts h g = answered-same (passed-first (k ∷ []) (wayCheck way ∷ ds) o p
         ∙ judged-true (sym e ∙ not-false t h) 2 ds o) g

@@ -59,8 +59,8 @@ counter-bytes {s} h i =
 -- ---- under an expanded key w, from the counter block of the state s
 
 module _ {w s : List ℕ} (words : Below (2 ^ 32) w) (state : Words 4 s) where
-  pub words-encrypted : (i : ℕ) → Words 4 (encryptWords w (counterState s i))
-  words-encrypted i = words-encryptWords words (words-counter state i)
+  pub counter-encrypted : (i : ℕ) → Words 4 (encryptWords w (counterState s i))
+  counter-encrypted i = words-encryptWords words (words-counter state i)
 
   encrypted : (i : ℕ) → encryptUnder w (counterBlock (bytesOf s) i) ≡ bytesOf (encryptWords w (counterState s i))
   unfolding encryptUnder
@@ -72,7 +72,7 @@ module _ {w s : List ℕ} (words : Below (2 ^ 32) w) (state : Words 4 s) where
       ≡ xors (bytesOf (encryptWords w (counterState s i))) (take 16 (drop (16 * i) note))
   cryptedNote-part note i h =
       rw (← encrypted i) (ctr-block (encryptUnder w) (bytesOf s)
-      (λ j. ap length (encrypted j) ∙ bytes-of-words (words-encrypted j) .size) note i h)
+      (λ j. ap length (encrypted j) ∙ bytes-of-words (counter-encrypted j) .size) note i h)
 
   -- A whole block, by words.
   pub cryptedNote-block : {note : List ℕ} → Below 256 note → (i : ℕ) → 16 * i + 16 ≤ length note
@@ -84,4 +84,4 @@ module _ {w s : List ℕ} (words : Below (2 ^ 32) w) (state : Words 4 s) where
       ∙ ap (xors (bytesOf (encryptWords w (counterState s i))))
       (sym (block-at (drop (16 * i) note) (below-drop (16 * i) below) long))
       ∙ sym (digitsOf-xors 8 4 (encryptWords w (counterState s i)) (wordsOf 4 (drop (16 * i) note))
-      (words-encrypted i .size ∙ sym (words-of-block (below-drop (16 * i) below) .size)))
+      (counter-encrypted i .size ∙ sym (words-of-block (below-drop (16 * i) below) .size)))

@@ -14,7 +14,7 @@ use Rattle.clefia_laws.specs.BlockLaws.{bytes-of-words, words-of-block}
 use Rattle.cipher_bytes.specs.ListLaws.{fill-part, fill-end, length-part}
 use Rattle.planbook_spec.specs.Note.{ctr}
 use Rattle.planbook_laws.specs.NoteLaws.{length-ctr}
-use Rattle.note_blocks.specs.Counter.{counterState, words-encrypted, cryptedNote-part, cryptedNote-block}
+use Rattle.note_blocks.specs.Counter.{counterState, counter-encrypted, cryptedNote-part, cryptedNote-block}
 
 -- What is given to write a note under an expanded key w, from the counter block of the state s.
 pub record NoteReady (w s note out : List ℕ) : Type 0 where
@@ -82,7 +82,7 @@ module _ {w s note : List ℕ} (words : Below (2 ^ 32) w) (state : Words 4 s) (b
       let q : take 16 (drop at (cryptedNote w s note)) ≡ bytesOf (xors t (wordsOf 4 (drop at note))) =
       rw (e, p) (cryptedNote-block words state below i (rw p at h)) in
       let l : length (bytesOf (xors t (wordsOf 4 (drop at note)))) ≡ 16 =
-      rw e (bytes-of-words (sized-xors 32 (words-encrypted words state i) (words-of-block (below-drop at below)))
+      rw e (bytes-of-words (sized-xors 32 (counter-encrypted words state i) (words-of-block (below-drop at below)))
       .size) in
       rw x (note-filled-part at 16 f l (omega (arith, note-filled-size w s note f)) (sym q))
 

@@ -24,8 +24,8 @@ module _ (book : List ℕ) {records : ℕ} (e : Accepted records ≡ bookAnswer 
   checked : AllPass (formAndRecords 1 asItIs book)
   checked = group-passed (formAndRecords 1 asItIs book) (recordCount (contents book)) e .checks
 
-  pub book-formed : Formed book
-  book-formed = formed 1 book (pass-left (formChecks 1 book) _ checked)
+  pub page-formed : Formed book
+  page-formed = formed 1 book (pass-left (formChecks 1 book) _ checked)
 
   module _ (i : ℕ) (out : List ℕ) where
     -- What is left of the call.

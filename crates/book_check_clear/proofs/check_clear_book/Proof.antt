@@ -6,7 +6,7 @@ use Rattle.call_answer.specs.declared.Answer.the-variants.{Accepted}
 use Rattle.planbook_spec.specs.Outcome.{judged}
 use Rattle.planbook_spec.specs.Book.{asItIs}
 use Rattle.book_form.specs.Form.{formAnswer}
-use Rattle.book_form.specs.BookAnswer.{form-stopped, form-formed, by-records}
+use Rattle.book_form.specs.BookAnswer.{book-stopped, form-formed, by-records}
 use Rattle.book_check_clear.proofs.check_clear_book.Statement.{statement}
 use Rattle.book_check_clear.proofs.check_clear_book.Tie as tie
 
@@ -15,7 +15,7 @@ answered : (k : tie.After-known-told) → Accepted (k .before .form .given .0 .0
 answered k = sym (k .before .form .given .1) ∙ k .before .before .before .check-form .ensures
 
 returns : tie.Need-returns
-returns c = form-stopped 1 asItIs _ (c .before .before .check-form .ensures) (c .enum-told .given .1)
+returns c = book-stopped 1 asItIs _ (c .before .before .check-form .ensures) (c .enum-told .given .1)
 
 clear-records-hold-requires : tie.Need-clear-records-hold-requires
 clear-records-hold-requires c κs = form-formed 1 asItIs _ (answered c)

@@ -7,7 +7,7 @@ use Rattle.planbook_spec.specs.Outcome.{judged}
 use Rattle.clefia_spec.specs.Block.{decryptUnder}
 use Rattle.planbook_spec.specs.Book.{decryptBody}
 use Rattle.book_form.specs.Form.{formAnswer}
-use Rattle.book_form.specs.BookAnswer.{form-stopped, form-formed, by-records}
+use Rattle.book_form.specs.BookAnswer.{book-stopped, form-formed, by-records}
 use Rattle.book_check_encrypted.proofs.check_encrypted_book.Statement.{statement}
 use Rattle.book_check_encrypted.proofs.check_encrypted_book.Tie as tie
 
@@ -16,7 +16,7 @@ answered : (k : tie.After-known-told) → Accepted (k .before .form .given .0 .0
 answered k = sym (k .before .form .given .1) ∙ k .before .before .before .check-form .ensures
 
 returns : tie.Need-returns
-returns c = form-stopped 2 _ _ (c .before .before .check-form .ensures) (c .enum-told .given .1)
+returns c = book-stopped 2 _ _ (c .before .before .check-form .ensures) (c .enum-told .given .1)
 
 decrypted-records-hold-requires : tie.Need-decrypted-records-hold-requires
 decrypted-records-hold-requires c κs =

@@ -3,7 +3,7 @@ use mathlib.Core.Path.{_∙_}
 use borrow.Author.Tests.{eq-eqb, ne-eqb}
 use Rattle.planbook_spec.specs.OutcomeLaws.{none, judged-pass, judged-true, judged-false}
 use Rattle.planbook_spec.specs.Checks.{blockCheck, outputCheck, blockChecks}
-use Rattle.call_block.specs.BlockUnder.{blockUnder, decrypted, encrypted}
+use Rattle.call_block.specs.BlockUnder.{blockUnder, block-decrypted, block-encrypted}
 use Rattle.call_answer.specs.Judging.{answered-refused, answered-accepted}
 use borrow.Author.Needs.{needs}
 use Rattle.call_block.proofs.crypt_block.Statement.{statement}
@@ -26,7 +26,7 @@ returns-3 c =
     answered-accepted _ _
     (judged-true (eq-eqb _ _ (t .before .before .if1 .left)) 3 _ _
     ∙ judged-true (eq-eqb _ _ (t .before .if2 .left)) 4 _ _ ∙ judged-pass none _)
-    (decrypted _ _ (t .if3 .taken) (b .decrypt-block .ensures))
+    (block-decrypted _ _ (t .if3 .taken) (b .decrypt-block .ensures))
 
 returns-4 : tie.Need-returns-4
 unfolding blockUnder blockChecks blockCheck outputCheck
@@ -36,7 +36,7 @@ returns-4 c =
     answered-accepted _ _
     (judged-true (eq-eqb _ _ (t .before .before .if1 .left)) 3 _ _
     ∙ judged-true (eq-eqb _ _ (t .before .if2 .left)) 4 _ _ ∙ judged-pass none _)
-    (encrypted _ _ (t .if3 .left) (b .encrypt-block .ensures))
+    (block-encrypted _ _ (t .if3 .left) (b .encrypt-block .ensures))
 
 pub crypt-block-spec : {M : Type 1} → statement M
 crypt-block-spec =

@@ -4,7 +4,7 @@ use Prim.Native.Nat.{_≤_}
 use lib.Seq.{length-take-le}
 use borrow.Author.Needs.{needs}
 use Rattle.planbook_spec.specs.Checks.{expandKeyCall}
-use Rattle.call_checks.specs.FirstChecks.{first-refuses, way-refuses, way-passes}
+use Rattle.call_checks.specs.FirstChecks.{first-refuses, way-refuses, way-accepts}
 use Rattle.call_expand_key.specs.ExpandLaws.{at-most-56, KeyPassed, key-passed, expandedCall}
 use Rattle.call_expand_key.proofs.expand_key.Statement.{statement}
 use Rattle.call_expand_key.proofs.expand_key.Tie as tie
@@ -39,7 +39,7 @@ unfolding expandKeyCall expandedCall
 returns-3 c =
     let a : tie.After-write-by = c .before .before .before in
     let e : tie.Else1 = a .before .before .before in
-    way-passes _ _ _ _ _ (passed (e .before .before) .checks) (e .before .check-way .ensures) (e .if1 .left)
+    way-accepts _ _ _ _ _ (passed (e .before .before) .checks) (e .before .check-way .ensures) (e .if1 .left)
     (a .write-by .ensures)
 
 pub expand-key-spec : {M : Type 1} → statement M

@@ -2,7 +2,7 @@
 use mathlib.Core.List.{[]}
 use mathlib.Core.Path.{sym, _∙_}
 use lib.Seq.{length-take-le}
-use Rattle.call_checks.specs.FirstChecks.{first-refuses, way-refuses, way-passes}
+use Rattle.call_checks.specs.FirstChecks.{first-refuses, way-refuses, way-accepts}
 use Rattle.planbook_spec.specs.Outcome.{judged}
 use Rattle.call_tasks.specs.Tasks.{taskCall}
 use Rattle.call_with_words.specs.CallLaws.{WordsPassed, words-passed}
@@ -40,7 +40,7 @@ unfolding taskCall judged
 returns-3 c =
     let a : tie.After-perform-by = c .before .before .before in
     let e : tie.Else1 = a .before .before .before in
-    way-passes _ _ [] _ _ (passed (e .before .before) .checks) (e .before .check-way .ensures) (e .if1 .left)
+    way-accepts _ _ [] _ _ (passed (e .before .before) .checks) (e .before .check-way .ensures) (e .if1 .left)
     (a .perform-by .ensures)
 
 pub call-spec : {M : Type 1} → statement M

@@ -6,7 +6,7 @@ use borrow.Author.Needs.{needs}
 use Rattle.call_answer.specs.declared.Answer.the-variants.{Accepted}
 use Rattle.planbook_spec.specs.Book.{asItIs}
 use Rattle.book_form.specs.BookAnswer.{bookAnswer}
-use Rattle.page_call.specs.PageCall.{wrong-book, book-formed, no-sheet, a-sheet}
+use Rattle.page_call.specs.PageCall.{wrong-book, page-formed, no-sheet, a-sheet}
 use Rattle.page_call.proofs.page.Statement.{statement}
 use Rattle.page_call.proofs.page.Tie as tie
 
@@ -23,7 +23,7 @@ returns c =
     (c .enum-told .given .1)
 
 u16-at-requires : tie.Need-u16-at-requires
-u16-at-requires c κs = omega (arith, book-formed _ (answered c) .size)
+u16-at-requires c κs = omega (arith, page-formed _ (answered c) .size)
 
 abbrev known : tie.After-u16-at → tie.After-known-told
 known h = h .before
@@ -34,7 +34,7 @@ returns-2 c = no-sheet _ (answered (known (c .before))) _ _ (rw (c .before .u16-
 sheet-page-requires : tie.Need-sheet-page-requires
 sheet-page-requires c κs =
     let l : tie.Else1 = c .before in
-    (book-formed _ (answered (known (l .before))), rw (l .before .u16-at .ensures) at (l .if1 .left))
+    (page-formed _ (answered (known (l .before))), rw (l .before .u16-at .ensures) at (l .if1 .left))
 
 returns-3 : tie.Need-returns-3
 returns-3 c =
