@@ -5,7 +5,7 @@ ghost use Rattle.book_entries.specs.Entry.{sheet_of, entry_of};
 
 use book_format::u16_at;
 
-#[derive(Drop)]
+#[derive(Clone, Copy)]
 pub struct Sheet {
     pub trial: u32,
     // How many records.

@@ -6,7 +6,7 @@ ghost use Rattle.book_sheets.specs.Cursors.{Placed, First, Next, Reached};
 
 use book_format::u16_at;
 
-#[derive(Drop)]
+#[derive(Clone, Copy)]
 pub struct Cursor {
     // Where the entry of the next sheet begins, and where its body does.
     pub from: usize,

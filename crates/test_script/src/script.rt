@@ -128,7 +128,7 @@ fn number_of(name: &[u8]) -> usize {
 
 // A command: the place of its name in the list of names, its numbers, and where it begins, its name
 // ends, it ends and the next one begins.
-#[derive(Drop)]
+#[derive(Clone, Copy)]
 pub struct Command {
     pub number: usize,
     pub first: usize,

@@ -4,7 +4,7 @@ ghost use Rattle.std.specs.Prelude.{◌<◌};
 use crate::script::Command;
 use test_console::say;
 
-#[derive(Drop)]
+#[derive(Clone, Copy)]
 pub struct State {
     pub key: usize,
     pub words: usize,
