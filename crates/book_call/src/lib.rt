@@ -1,6 +1,9 @@
 // Plan books encrypted and decrypted under an expanded key; never under the key itself. (Document
 // 01's terms are sealing and opening a book; a clear book has the first byte 1, and an encrypted
 // one 2.)
+
+#![tactic(auto)]
+
 ghost use Rattle.std.specs.Prelude.{◌≡◌, not, [], length};
 ghost use Rattle.clefia_spec.specs.Block.{encrypt_under, decrypt_under};
 ghost use Rattle.planbook_spec.specs.Book.{map_bodies, encrypt_book_by, decrypt_book_by};

@@ -1,5 +1,8 @@
 // The chain of a sheet: CBC (NIST SP 800-38A). It is passed by value; each step hands back its
 // block together with the chain that follows.
+
+#![tactic(auto)]
+
 ghost use Rattle.std.specs.Prelude.{◌≡◌, length, drop};
 ghost use Rattle.clefia_spec.specs.Words.{words_of};
 ghost use Rattle.cipher_ffunction.specs.Tables.{CipherReady};

@@ -1,4 +1,7 @@
 // Checks 5 to 11 of a clear book. They need neither a key nor tables.
+
+#![tactic(auto)]
+
 ghost use Rattle.std.specs.Prelude.{◌≡◌};
 ghost use Rattle.planbook_spec.specs.Book.{as_it_is, contents, bodies, sheets_hold};
 ghost use Rattle.planbook_laws.specs.BookLaws.{Formed};

@@ -1,4 +1,7 @@
 // Checks 5 to 11 of an encrypted book. Its records are decrypted, looked at and dropped again.
+
+#![tactic(auto)]
+
 ghost use Rattle.std.specs.Prelude.{◌≡◌};
 ghost use Rattle.clefia_spec.specs.Block.{decrypt_under};
 ghost use Rattle.planbook_spec.specs.Book.{decrypt_body, contents, bodies, sheets_hold};

@@ -1,6 +1,9 @@
 // Check 11 of one encrypted sheet: its records decrypted, four at a time by word tables, and only
 // looked at. Each is decrypted by itself and added to the encrypted one before it, which is read
 // from the body again. `entry` is the sheet's entry.
+
+#![tactic(auto)]
+
 ghost use Rattle.std.specs.Prelude.{◌≡◌, List, ℕ, ◌+◌, ◌-◌, ◌*◌, ◌≤◌, length, drop};
 ghost use Rattle.clefia_spec.specs.Words.{bytes_of, words_of, xors};
 ghost use Rattle.clefia_spec.specs.Block.{decrypt_under};

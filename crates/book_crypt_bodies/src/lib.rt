@@ -1,5 +1,8 @@
 // What is written of a book: the front, and the bodies of all sheets encrypted or decrypted, one
 // after the other.
+
+#![tactic(auto)]
+
 pub mod front;
 
 ghost use Rattle.std.specs.Prelude.{◌≡◌, ◌++◌, ◌+◌, ◌*◌, length, take};

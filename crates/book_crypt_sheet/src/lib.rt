@@ -1,6 +1,9 @@
 // The body of one sheet, encrypted or decrypted: in decrypting by word tables four records at a
 // time, the rest and all encrypting block by block. `entry` is the sheet's entry. Of four, each is
 // decrypted by itself and added to the encrypted one before it, which is read from the body again.
+
+#![tactic(auto)]
+
 ghost use Rattle.std.specs.Prelude.{◌≡◌, true, List, ℕ, ◌+◌, ◌-◌, ◌*◌, ◌≤◌, ◌<◌, length};
 ghost use Rattle.planbook_spec.specs.Book.{count};
 ghost use Rattle.cipher_ffunction.specs.Tables.{CipherReady};

@@ -1,5 +1,8 @@
 // The form of a book, checks 5 to 10, in groups. Each group answers as a call does: its first check
 // that fails, or a count.
+
+#![tactic(auto)]
+
 ghost use Rattle.std.specs.Prelude.{◌≡◌, ◌&&◌, ◌+◌, ◌*◌, ◌≤◌, eqb, leb, length, get_or};
 ghost use Rattle.planbook_spec.specs.Book.{sheet_count};
 ghost use Rattle.book_form.specs.Form.{head_answer, contents_answer, form_answer};

@@ -1,4 +1,7 @@
 // The numbers of the format, under the names of the C header, and the number that two bytes write.
+
+#![tactic(auto)]
+
 ghost use Rattle.std.specs.Prelude.{◌≡◌, ◌+◌, ◌*◌, ◌≤◌, length};
 ghost use Rattle.planbook_spec.specs.Book.{number};
 

@@ -1,4 +1,7 @@
 // The sheets of a book one after the other: where the entry and the body of each are.
+
+#![tactic(auto)]
+
 ghost use Rattle.std.specs.Prelude.{◌≤◌, ◌<◌};
 ghost use Rattle.planbook_spec.specs.Book.{sheet_count};
 ghost use Rattle.planbook_laws.specs.BookLaws.{Formed};

@@ -1,4 +1,7 @@
 // The program's own answer to a call, and the one number that C receives for it.
+
+#![tactic(auto)]
+
 ghost use Rattle.std.specs.Prelude.{◌≡◌};
 ghost use Rattle.call_answer.specs.Answer.{number_of};
 

@@ -1,4 +1,7 @@
 // One block under an expanded key: checks 3 and 4, and then the block encrypted or decrypted.
+
+#![tactic(auto)]
+
 ghost use Rattle.cipher_ffunction.specs.Tables.{CipherReady};
 ghost use Rattle.call_answer.specs.Answer.{Answered};
 ghost use Rattle.call_block.specs.BlockUnder.{block_under};

@@ -1,4 +1,7 @@
 // Checks 1, 2, 4 and 14, each by itself: a call makes those that it needs, in its own order.
+
+#![tactic(auto)]
+
 ghost use Rattle.std.specs.Prelude.{◌≡◌, ◌||◌, [], ◌∷◌, eqb, length, ◌*◌, ◌≤◌};
 ghost use Rattle.clefia_spec.specs.Words.{bytes_of};
 ghost use Rattle.planbook_spec.specs.Outcome.{accepted, judged};

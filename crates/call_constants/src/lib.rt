@@ -1,4 +1,7 @@
 // The call for the constants of a key length.
+
+#![tactic(auto)]
+
 ghost use Rattle.planbook_spec.specs.Checks.{constants_call};
 ghost use Rattle.call_answer.specs.Answer.{Answered};
 

@@ -1,5 +1,8 @@
 // The call that expands a key: checks 1 and 2, the tables fetched, the words, and check 4 before
 // they are written.
+
+#![tactic(auto)]
+
 ghost use Rattle.std.specs.Prelude.{◌≡◌, length};
 ghost use Rattle.clefia_spec.specs.Words.{by_key_length, KeyLength};
 ghost use Rattle.cipher_ffunction.specs.Tables.{ValidTables};

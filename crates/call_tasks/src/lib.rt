@@ -1,4 +1,7 @@
 // What each call that takes words does, once they are read and the tables are fetched.
+
+#![tactic(auto)]
+
 ghost use Rattle.cipher_ffunction.specs.Tables.{CipherReady};
 ghost use Rattle.call_answer.specs.Answer.{Answered};
 ghost use Rattle.call_tasks.specs.Tasks.{under};

@@ -1,5 +1,8 @@
 // The calls that take words, below the border: checks 14 and 2, the words read, the tables fetched,
 // the task done. The answer is an enum.
+
+#![tactic(auto)]
+
 ghost use Rattle.std.specs.Prelude.{◌≡◌, length, ◌*◌, ◌≤◌};
 ghost use Rattle.planbook_spec.specs.Checks.{words_from_bytes};
 ghost use Rattle.call_answer.specs.Answer.{Answered};

@@ -1,5 +1,8 @@
 // One block of 16 bytes, encrypted and decrypted under expanded words. (Document 01's terms are
 // sealing and opening a block.)
+
+#![tactic(auto)]
+
 ghost use Rattle.std.specs.Prelude.{◌≡◌, ◌-◌, ◌/◌, ◌≤◌, length};
 ghost use Rattle.clefia_spec.specs.Block.{whiten, encrypt_words, decrypt_words, encrypt_under, decrypt_under};
 ghost use Rattle.cipher_ffunction.specs.Tables.{CipherReady};

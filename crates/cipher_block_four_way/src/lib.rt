@@ -1,4 +1,7 @@
 // Four blocks at once, encrypted and decrypted under expanded words.
+
+#![tactic(auto)]
+
 ghost use Rattle.std.specs.Prelude.{◌≡◌, ◌+◌, ◌≤◌, length};
 ghost use Rattle.clefia_spec.specs.Block.{whiten, encrypt_words, decrypt_words};
 ghost use Rattle.cipher_ffunction.specs.Tables.{CipherReady};

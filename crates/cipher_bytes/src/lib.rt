@@ -1,4 +1,7 @@
 // Words read from bytes and written as bytes, the first byte highest; lists of four words.
+
+#![tactic(auto)]
+
 ghost use Rattle.std.specs.Prelude.{◌≡◌, [], ◌∷◌, ◌+◌, ◌*◌, ◌≤◌, length, take, drop};
 ghost use Rattle.clefia_spec.specs.Words.{from_digits, to_digits, bytes_of, words_of, xors};
 ghost use Rattle.cipher_bytes.specs.ListLaws.{put_four};

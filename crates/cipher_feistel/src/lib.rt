@@ -1,6 +1,9 @@
 // One round of the generalised Feistel network on four branches: the Feistel step, and the branches
 // rotated. A state is a list of words, passed and returned by value. The tables that the round
 // functions read, if any, are passed by the caller.
+
+#![tactic(auto)]
+
 ghost use Rattle.std.specs.Prelude.{◌≡◌, List, ℕ, ◌+◌, get_or};
 ghost use Rattle.clefia_spec.specs.FFunction.{f0, f1};
 ghost use Rattle.clefia_spec.specs.Network.{feistel, rotate_left, rotate_right};

@@ -1,4 +1,7 @@
 // F0 and F1, the two functions of a round, by each of the three ways.
+
+#![tactic(auto)]
+
 ghost use Rattle.std.specs.Prelude.{◌≡◌, true, [], ◌∷◌, ◌-◌, ◌<◌, length, get_or};
 ghost use Rattle.clefia_spec.specs.Words.{◌⊕◌, to_digits};
 ghost use Rattle.clefia_spec.specs.FFunction.{f0, f1, matrix_times, substitute};

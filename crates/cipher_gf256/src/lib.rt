@@ -1,4 +1,7 @@
 // Arithmetic on bytes as elements of GF(2^8) modulo z^8 + z^4 + z^3 + z^2 + 1.
+
+#![tactic(auto)]
+
 pub mod all_bits;
 
 ghost use Rattle.std.specs.Prelude.{◌≡◌, ◌*◌, ◌%◌, ◌<◌};

@@ -1,4 +1,7 @@
 // The expanded key of a key of 16, 24 or 32 bytes.
+
+#![tactic(auto)]
+
 ghost use Rattle.std.specs.Prelude.{◌≡◌, ◌+◌, ◌*◌, ◌≤◌, length};
 ghost use Rattle.clefia_spec.specs.Words.{words_of, by_key_length, KeyLength};
 ghost use Rattle.clefia_spec.specs.KeySchedule.{expand_short, expand_long, extend_key, expand_key};

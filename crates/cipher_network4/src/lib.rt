@@ -1,4 +1,7 @@
 // The generalised Feistel network of four branches.
+
+#![tactic(auto)]
+
 ghost use Rattle.std.specs.Prelude.{◌≡◌, ◌+◌, ◌*◌, ◌≤◌, length};
 ghost use Rattle.clefia_spec.specs.Network.{network4, inverse_network4};
 ghost use Rattle.cipher_ffunction.specs.Tables.{ValidTables};

@@ -1,5 +1,8 @@
 // Four states that go through the same rounds at once, by word tables: while one waits for its
 // tables, the others are worked on (DECISIONS, "Opening by word tables decrypts").
+
+#![tactic(auto)]
+
 ghost use Rattle.std.specs.Prelude.{◌≡◌, List, ℕ, ◌+◌, ◌*◌, ◌≤◌, length, get_or};
 ghost use Rattle.clefia_spec.specs.FFunction.{f0, f1};
 ghost use Rattle.clefia_spec.specs.Network.{feistel, rotate_left, rotate_right, rounds, undo_rounds, network4};

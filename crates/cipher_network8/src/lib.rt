@@ -1,6 +1,9 @@
 // The generalised Feistel network of eight branches, which the longer keys go through. A state is a
 // list of words, passed and returned by value. The tables that the round functions read, if any,
 // are passed by the caller.
+
+#![tactic(auto)]
+
 ghost use Rattle.std.specs.Prelude.{◌≡◌, ◌++◌, ◌+◌, ◌*◌, ◌≤◌, length, take, drop};
 ghost use Rattle.clefia_spec.specs.FFunction.{f0, f1};
 ghost use Rattle.clefia_spec.specs.Network.{feistel, rotate_left, rotate_right, network8};

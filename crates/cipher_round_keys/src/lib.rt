@@ -1,4 +1,7 @@
 // DoubleSwap, and the round keys of the key schedule, four words a step.
+
+#![tactic(auto)]
+
 ghost use Rattle.std.specs.Prelude.{◌≡◌, [], ◌∷◌, ◌++◌, ◌+◌, ◌*◌, ◌%◌, ◌≤◌, length, get_or, take, ltb};
 ghost use Rattle.clefia_spec.specs.Words.{four_at};
 ghost use Rattle.clefia_spec.specs.KeySchedule.{double_swap, step_keys, round_keys};

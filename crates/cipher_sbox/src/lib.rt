@@ -1,4 +1,7 @@
 // S0 and S1: by the given byte tables, and worked out from the rules.
+
+#![tactic(auto)]
+
 pub mod rules;
 
 ghost use Rattle.std.specs.Prelude.{◌≡◌, ◌<◌};

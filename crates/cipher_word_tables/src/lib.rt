@@ -1,5 +1,8 @@
 // The eight word tables, for way 2: four columns of M0, then four of M1. Each table has a function
 // that returns it whole: a constant that is read in place is copied at each read.
+
+#![tactic(auto)]
+
 ghost use Rattle.std.specs.Prelude.{◌≡◌};
 ghost use Rattle.cipher_ffunction.specs.Tables.{word_table, all_word_tables};
 

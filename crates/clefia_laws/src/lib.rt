@@ -1,1 +1,3 @@
 // Laws of CLEFIA's definitions, in specs/. There is no code here.
+
+#![tactic(auto)]

@@ -1,5 +1,8 @@
 // The blocks of a note under an expanded key: counter blocks as four words, and the blocks that are
 // written with them, encrypted, added.
+
+#![tactic(auto)]
+
 ghost use Rattle.std.specs.Prelude.{◌≡◌, ◌+◌, ◌-◌, ◌≤◌, length, drop};
 ghost use borrow.Rule.Slice.PartMut.{put_mid};
 ghost use Rattle.clefia_spec.specs.Words.{bytes_of, words_of, xors};

@@ -1,6 +1,9 @@
 // A note under an expanded key: counter mode (NIST SP 800-38A), and the call's checks 3, 4 and 12.
 // Counter blocks do not wait for each other, so by word tables four of them are encrypted at a
 // time.
+
+#![tactic(auto)]
+
 ghost use Rattle.std.specs.Prelude.{◌≡◌, [], ◌+◌, ◌*◌, ◌≤◌, ◌<◌, length};
 ghost use Rattle.clefia_spec.specs.Block.{encrypt_under};
 ghost use Rattle.cipher_ffunction.specs.Tables.{ValidTables, CipherReady};

@@ -2,6 +2,9 @@
 // is read to its end or to the first byte that no book has room for, and the page goes to standard
 // output. Of a book that is refused, or that has no sheets, nothing is written, to neither stream;
 // a page that could not be written whole is reported on standard error.
+
+#![tactic(auto)]
+
 ghost use Rattle.std.specs.Prelude.{◌≤◌};
 
 use libc::{STDERR_FILENO, STDIN_FILENO, STDOUT_FILENO};

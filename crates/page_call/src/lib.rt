@@ -1,5 +1,8 @@
 // The call for a sheet's planting page: the checks of a whole clear book, then those of the sheet
 // and of the output, and then its text.
+
+#![tactic(auto)]
+
 ghost use Rattle.std.specs.Prelude.{[], ◌∷◌, ◌*◌, ◌<◌};
 ghost use Rattle.planbook_spec.specs.Outcome.{accepted, judged};
 ghost use Rattle.planbook_spec.specs.Checks.{output_check};

@@ -1,5 +1,8 @@
 // The text of a planting page: a number in its field, a line, the heading, the lines of a sheet.
 // Characters are bytes.
+
+#![tactic(auto)]
+
 ghost use Rattle.std.specs.Prelude.{◌≡◌, [], ◌∷◌, ◌++◌, ◌+◌, ◌*◌, ◌≤◌, ◌<◌, length, take};
 ghost use Rattle.planbook_spec.specs.Book.{pieces};
 ghost use Rattle.planbook_spec.specs.Page.{number_field, heading, line, lines};

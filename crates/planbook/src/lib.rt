@@ -1,5 +1,8 @@
 // The border to C: each exported call turns the answer of the call below into the 64-bit number,
 // and nothing else. No call has a precondition.
+
+#![tactic(auto)]
+
 ghost use Rattle.planbook_spec.specs.Outcome.{Answers};
 ghost use Rattle.planbook_spec.specs.Checks.{constants_call, expand_key_call, encrypt_block_call, decrypt_block_call};
 ghost use Rattle.planbook_spec.specs.Book.{encrypt_book_call, decrypt_book_call};

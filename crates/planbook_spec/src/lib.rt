@@ -1,1 +1,3 @@
 // What the calls answer: definitions and computed cases, in specs/. There is no code here.
+
+#![tactic(auto)]

@@ -1,5 +1,8 @@
 // What the test programs write: text, numbers, the answer of an exported call, words of bytes. All
 // of it goes to standard output.
+
+#![tactic(auto)]
+
 ghost use Rattle.std.specs.Prelude.{◌+◌, ◌≤◌, length};
 
 use libc::STDOUT_FILENO;

@@ -4,6 +4,9 @@
 //
 // The file stdout comes from the rules in docs/FORMAT.md and never from this program: a script of
 // its own judged each case by them, and the few encrypted bytes are those of another CLEFIA.
+
+#![tactic(auto)]
+
 mod calls;
 
 use calls::{make_ready, run_call};

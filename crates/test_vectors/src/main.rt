@@ -6,6 +6,9 @@
 // and are corrected: constant 74 of the 24-byte key, printed 9dcfabab3, is 9dcfaba3; constant 56 of
 // the 32-byte key, printed fb9678f, is fbd9678f; round key 15 of the 24-byte key, printed 92cf98e,
 // is 92cfc98e.
+
+#![tactic(auto)]
+
 use planbook::{
     planbook_constants, planbook_decrypt_block, planbook_encrypt_block, planbook_expand_key,
 };
