@@ -1,5 +1,5 @@
-# Everything built goes below target/. Two tools are needed: the Rattle kit (its command rt) and a
-# C compiler.
+# Everything built goes below target/, and what rt keeps of its proofs into crates/*/out/. Two tools
+# are needed: the Rattle kit (its command rt) and a C compiler.
 
 LIBRARY := target/staticlib/libplanbook.a
 PLANBOOK_LIB ?= $(LIBRARY)
@@ -32,7 +32,8 @@ DEB_TREE := $(DEB)/planbook-$(VERSION)
 help:
 	@echo "make demo      build what is missing, then seal, label, open and show the plan in examples/,"
 	@echo "               a note and a page"
-	@echo "make test      prove everything from nothing and run all tests; make check is the same"
+	@echo "make test      prove everything that rt has not proved before on this machine, and run all"
+	@echo "               tests; make check is the same"
 	@echo "make lib       the proved library, $(LIBRARY)"
 	@echo "make command   the command, $(COMMAND)"
 	@echo "make page      the program page, target/bin/page: the planting page of sheet 0 of the book"
@@ -42,13 +43,13 @@ help:
 	@echo "               description and the completion for bash below PREFIX=$(PREFIX)"
 	@echo "make uninstall remove what make install put there, given the same variables"
 	@echo "make deb       two Debian packages in $(DEB)/"
-	@echo "make clean     remove target/"
+	@echo "make clean     remove target/ and crates/*/out/, and with them what rt keeps of its proofs here"
 
 demo: need-platform need-compiler $(COMMAND) $(EXAMPLE)
 	@examples/demo.sh $(COMMAND) $(EXAMPLE) target/demo
 
 test: need-platform need-kit need-compiler
-	@echo "Proving everything from nothing, then the tests in C: this takes many minutes."
+	@echo "Proving every crate, then the tests in C: this takes many minutes."
 	@bash .ci/run
 
 check: test
@@ -57,9 +58,9 @@ lib: need-platform $(PLANBOOK_LIB)
 
 command: need-platform need-compiler $(COMMAND)
 
-# rt proves it, and links it to target/bin/page.
+# rt proves it, and links it.
 page: need-platform need-kit
-	@tools/prove-quietly check page
+	@tools/build page
 
 bench bench-record: need-platform need-compiler $(PLANBOOK_LIB)
 	@echo "Measuring: leave the machine alone meanwhile."
@@ -110,13 +111,13 @@ deb: need-platform need-compiler need-dpkg $(PLANBOOK_LIB)
 	@ls $(DEB)/*.deb
 
 clean:
-	rm -rf target
+	rm -rf target crates/*/out
 
 # rt knows which crates have changed; make only asks it when some file of theirs has.
-$(LIBRARY): $(wildcard crates.txt) $(shell find crates -type f 2>/dev/null)
+$(LIBRARY): $(wildcard crates.txt) $(shell find crates -name out -prune -o -type f -print 2>/dev/null)
 	@$(MAKE) --no-print-directory need-kit
 	@echo "Proving the crates and building $@: minutes the first time, seconds when nothing has changed."
-	@tools/prove-quietly staticlib planbook
+	@tools/build library
 
 $(COMMAND): $(wildcard cli/*.c cli/*.h) $(HEADER) $(PLANBOOK_LIB)
 	@echo "Building $@"

@@ -28,7 +28,8 @@ module _ (decrypting : Bool) (w book : List ℕ) where
   -- The whole call, by each way out: a wrong length of the output, a check of the book, the other
   -- book.
   module _ (out : List ℕ) where
-    pub wrong_output : (length out ≡ length book → ⊥) → Answered (crypted_book decrypting w book out) out (Refused 4) out
+    pub wrong_output : (length out ≡ length book → ⊥) → Answered (crypted_book decrypting w book out) out
+        (Refused 4) out
     unfolding book_checks output_check judged
     wrong_output h = answered_refused out (rw (ne_eqb _ _ h))
 
@@ -43,7 +44,8 @@ module _ (decrypting : Bool) (w book : List ℕ) where
       wrong_book e h = rw h (answered_refused out
           (after_output _ ∙ stopped (form_and_records _ _ book) (record_count (contents book)) _ (sym h ∙ e)))
 
-      module _ {records : ℕ} (e : Accepted records ≡ book_answer (kind_of decrypting) (clear_body decrypting w) book) where
+      module _ {records : ℕ} (e : Accepted records ≡ book_answer (kind_of decrypting)
+          (clear_body decrypting w) book) where
         passed_book : GroupPassed (form_and_records (kind_of decrypting) (clear_body decrypting w) book)
             (record_count (contents book)) records
         passed_book = group_passed (form_and_records (kind_of decrypting) (clear_body decrypting w) book)

@@ -35,7 +35,8 @@ module _ {w p bs : List ℕ} (words : Below (2 ^ 32) w) (before : Words 4 p) (by
   pub words_encrypted : Words 4 (encrypt_words w (xors p (words_of 4 bs)))
   words_encrypted = words_encrypt_words words (sized_xors 32 before (words_of_block bytes))
 
-  pub encrypt_step_lem : encrypt_under w (xors (bytes_of p) (take 16 bs)) ≡ bytes_of (encrypt_words w (xors p (words_of 4 bs)))
+  pub encrypt_step_lem : encrypt_under w (xors (bytes_of p) (take 16 bs))
+      ≡ bytes_of (encrypt_words w (xors p (words_of 4 bs)))
   unfolding encrypt_under
   encrypt_step_lem =
       ap (λ (s : List ℕ). bytes_of (encrypt_words w s))
@@ -45,7 +46,8 @@ module _ {w p bs : List ℕ} (words : Below (2 ^ 32) w) (before : Words 4 p) (by
   pub words_decrypted : Words 4 (xors p (decrypt_words w (words_of 4 bs)))
   words_decrypted = sized_xors 32 before (words_decrypt_words words (words_of_block bytes))
 
-  pub decrypt_step_lem : xors (bytes_of p) (decrypt_under w (take 16 bs)) ≡ bytes_of (xors p (decrypt_words w (words_of 4 bs)))
+  pub decrypt_step_lem : xors (bytes_of p) (decrypt_under w (take 16 bs))
+      ≡ bytes_of (xors p (decrypt_words w (words_of 4 bs)))
   unfolding decrypt_under
   decrypt_step_lem =
       ap (λ (s : List ℕ). xors (bytes_of p) (bytes_of (decrypt_words w s))) (words_at bs long)
@@ -124,7 +126,8 @@ module _ {w body p : List ℕ} (at : ℕ) {left : ℕ} (words : Below (2 ^ 32) w
   decrypt_turn =
       decrypt_next (decrypt_under w) left at (bytes_of p) body h
       ∙ ap₂ (λ (x y : List ℕ). x ++ cbc_decrypt (decrypt_under w) (left - 1) y (drop (at + 16) body))
-      (decrypt_step_lem words before (below_drop at bytes) long) (sym (block_at (drop at body) (below_drop at bytes) long))
+      (decrypt_step_lem words before (below_drop at bytes) long)
+      (sym (block_at (drop at body) (below_drop at bytes) long))
 
 -- The same turns, as a loop makes them: c is the chain.
 pub chain_turn : (decrypting : Bool) (c : Chain) {w entry body out : List ℕ} {at left : ℕ} → Below (2 ^ 32) w
@@ -159,7 +162,8 @@ ahead_fits (suc n) {end} {size} {from} e h f g = let z : from ≡ end = f (omega
 pub record Decrypted (b : Bool) (w entry body : List ℕ) (at left : ℕ) (p : List ℕ) : Type 0 where
   pub place : at + 16 * left ≡ 16 * count entry
   pub state : Words 4 p
-  pub rest : (b && all_records_hold entry (pieces 16 left (cbc_decrypt (decrypt_under w) left (bytes_of p) (drop at body))))
+  pub rest : (b && all_records_hold entry (pieces 16 left (cbc_decrypt (decrypt_under w) left (bytes_of p)
+      (drop at body))))
       ≡ sheet_holds entry (decrypt_body (decrypt_under w) entry body)
 
 pieces_first : (n : ℕ) (b rest : List ℕ) → 0 < n → length b ≡ 16 → pieces 16 n (b ++ rest) ≡ b ∷ pieces 16 (n - 1) rest

@@ -33,6 +33,7 @@ pub answered_equal : {o : Outcome} {out : List ℕ} {r r' : Answer} {exit exit' 
 answered_equal g h = (g.case ∙ sym h.case, g.output ∙ sym h.output)
 
 -- The same with the number in place of the case: what the border to C states.
-pub answers : {o : Outcome} {out : List ℕ} {r : Answer} {exit : List ℕ} {n : ℕ} → Answered o out r exit → n ≡ number_of r
+pub answers : {o : Outcome} {out : List ℕ} {r : Answer} {exit : List ℕ} {n : ℕ} → Answered o out r exit
+    → n ≡ number_of r
     → Answers o out n exit
 answers {o} g e = record { number = e ∙ ap number_of g.case ∙ number_answer_of o; output = g.output }

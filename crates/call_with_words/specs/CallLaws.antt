@@ -36,6 +36,7 @@ words_passed words {n} e =
 -- given.
 pub answered_read : (task : Task) (words : List ℕ) (n : ℕ) {w : List ℕ} (iv src out : List ℕ) {exit : List ℕ}
     {r : Answer} → length words ≡ 4 * n → w ≡ words_of n words
-    → Answered (under task w iv src out) out r exit → Answered (under task (words_from_bytes words) iv src out) out r exit
+    → Answered (under task w iv src out) out r exit
+    → Answered (under task (words_from_bytes words) iv src out) out r exit
 unfolding words_from_bytes
 answered_read task words n iv src out l e g = let q : length words / 4 ≡ n = omega (arith, l) in rw (q, ← e) g

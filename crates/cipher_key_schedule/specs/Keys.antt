@@ -18,7 +18,8 @@ at_least_16 sixteen = omega arith
 at_least_16 twenty_four = omega arith
 at_least_16 thirty_two = omega arith
 
-pub extended : (key : List ℕ) → extend_key (words_of 6 key) ≡ word_at key 16 ∷ word_at key 20 ∷ complement 32 (word_at key 0)
+pub extended : (key : List ℕ) → extend_key (words_of 6 key)
+    ≡ word_at key 16 ∷ word_at key 20 ∷ complement 32 (word_at key 0)
     ∷ complement 32 (word_at key 4) ∷ []
 unfolding extend_key
 extended key =

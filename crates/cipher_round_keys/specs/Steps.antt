@@ -52,7 +52,8 @@ module _ (period base : ℕ) (con : List ℕ) (n i : ℕ) (k k' l l' s whole : L
   pub fill : (t : Bool) → length (choose t l l') ≡ 4 → ltb (i % period) 2 ≡ t →
       take (4 + 4 * (i + 1)) (put_four s (4 + 4 * i)
       (step_keys i (four_at con (base + 4 * i)) (choose t k k') (choose t l l')))
-      ++ round_keys period base con (n - (i + 1)) (i + 1) k k' (choose t (double_swap l) l) (choose t l' (double_swap l'))
+      ++ round_keys period base con (n - (i + 1)) (i + 1) k k' (choose t (double_swap l) l)
+      (choose t l' (double_swap l'))
       ≡ whole
   unfolding chosen
   fill t q b =

@@ -10,8 +10,8 @@ use Rattle.cipher_sbox.specs.Rules.{s1_columns}
 
 -- S0 by its rule, S1 by columns. Unfolding this unfolds all that it is computed with.
 unfoldable pub tested_box : ℕ → ℕ → ℕ
-unfolding ss0 ss1 ss2 ss3 s0 double add_product product add_columns f_by_columns g_by_columns power14 inverse_by_subfield
-    s1_by_columns
+unfolding ss0 ss1 ss2 ss3 s0 double add_product product add_columns f_by_columns g_by_columns power14
+    inverse_by_subfield s1_by_columns
 tested_box zero = s0
 tested_box (suc i) = s1_by_columns
 

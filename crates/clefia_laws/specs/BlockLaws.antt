@@ -53,7 +53,8 @@ module _ {w : List ℕ} (words : Below (2 ^ 32) w) where
 
   pub words_encrypt_words : {n : ℕ} {s : List ℕ} → Words n s → Words n (encrypt_words w s)
   unfolding encrypt_words
-  words_encrypt_words h = words_whiten (at 2) (at 3) (words_network 2 (round_count w) w 4 (words_whiten (at 0) (at 1) h))
+  words_encrypt_words h = words_whiten (at 2) (at 3) (words_network 2 (round_count w) w 4
+      (words_whiten (at 0) (at 1) h))
 
   pub words_decrypt_words : {n : ℕ} {s : List ℕ} → Words n s → Words n (decrypt_words w s)
   unfolding decrypt_words

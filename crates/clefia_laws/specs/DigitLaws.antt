@@ -135,7 +135,8 @@ module _ {b : ℕ} (pos : zero < b) where
   below_digits_of k [] = none
   below_digits_of k (n ∷ ns) = below_append (below_to_digits k n) (below_digits_of k ns)
 
-  pub digits_numbers : (k n : ℕ) (ds : List ℕ) → Below b ds → length ds ≡ n * k → digits_of b k (numbers_of b k n ds) ≡ ds
+  pub digits_numbers : (k n : ℕ) (ds : List ℕ) → Below b ds → length ds ≡ n * k
+      → digits_of b k (numbers_of b k n ds) ≡ ds
   unfolding numbers_of digits_of
   digits_numbers k zero [] r e = refl
   digits_numbers k zero (d ∷ ds) r e = absurd (not-suc-le-zero (le_of_eq (e ∙ zero-mul k)))
@@ -273,7 +274,8 @@ module _ (w : ℕ) where
   digits_of_xors k (m ∷ ms) [] e = absurd (not-suc-le-zero (le_of_eq e))
   digits_of_xors k (m ∷ ms) (n ∷ ns) e =
       ap₂ ◌++◌ (to_digits_xor k m n) (digits_of_xors k ms ns (suc_inj e))
-      ∙ sym (xors_append (to_digits (2 ^ w) k m) (digits_of (2 ^ w) k ms) (to_digits (2 ^ w) k n) (digits_of (2 ^ w) k ns)
+      ∙ sym (xors_append (to_digits (2 ^ w) k m) (digits_of (2 ^ w) k ms) (to_digits (2 ^ w) k n)
+      (digits_of (2 ^ w) k ns)
       (length_to_digits (2 ^ w) k m ∙ sym (length_to_digits (2 ^ w) k n)))
 
   pub numbers_of_xors : (k n : ℕ) {xs ys : List ℕ} → Below (2 ^ w) xs → Below (2 ^ w) ys → length xs ≡ length ys

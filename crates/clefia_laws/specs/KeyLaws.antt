@@ -156,7 +156,8 @@ pub words_expand_key_words : {n : ℕ} → KeyLength n → {k : List ℕ} → Be
     → Words (by_key_length n 40 48 56) (expand_key_words n k)
 unfolding expand_key_words
 words_expand_key_words sixteen r = words_short (words_four_at r 0)
-words_expand_key_words twenty_four r = words_long 11 (below_constants twenty_four) (words_four_at r 0) (words_extend_key r)
+words_expand_key_words twenty_four r =
+    words_long 11 (below_constants twenty_four) (words_four_at r 0) (words_extend_key r)
 words_expand_key_words thirty_two r = words_long 13 (below_constants thirty_two) (words_four_at r 0) (words_four_at r 4)
 
 -- The expanded key of a key of a permitted length: 40, 48 or 56 words.

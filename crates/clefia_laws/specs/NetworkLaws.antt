@@ -70,7 +70,8 @@ module _ (p : ℕ) (f g : ℕ → ℕ → ℕ) where
   unfolding rounds undo_rounds
   undo_rounds_lem zero w i s = refl
   undo_rounds_lem (suc n) w i s =
-      ap (λ (t : List ℕ). feistel f g w i (rotate_right t)) (undo_rounds_lem n w (i + p) (rotate_left (feistel f g w i s)))
+      ap (λ (t : List ℕ). feistel f g w i (rotate_right t)) (undo_rounds_lem n w (i + p)
+      (rotate_left (feistel f g w i s)))
       ∙ ap (feistel f g w i) (right_left (feistel f g w i s)) ∙ feistel_twice f g w i s
 
   pub redo_rounds : (n : ℕ) (w : List ℕ) (i : ℕ) (s : List ℕ) → rounds p f g n w i (undo_rounds p f g n w i s) ≡ s

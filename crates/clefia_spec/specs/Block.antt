@@ -14,7 +14,8 @@ unfoldable pub round_count : List ℕ → ℕ
 round_count w = (length w - 4) / 2
 
 unfoldable pub encrypt_words : List ℕ → List ℕ → List ℕ
-encrypt_words w s = whiten (get_or w 2 0) (get_or w 3 0) (network4 (round_count w) w 4 (whiten (get_or w 0 0) (get_or w 1 0) s))
+encrypt_words w s = whiten (get_or w 2 0) (get_or w 3 0)
+    (network4 (round_count w) w 4 (whiten (get_or w 0 0) (get_or w 1 0) s))
 
 unfoldable pub decrypt_words : List ℕ → List ℕ → List ℕ
 decrypt_words w s = whiten (get_or w 0 0) (get_or w 1 0)

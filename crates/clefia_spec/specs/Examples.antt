@@ -42,7 +42,8 @@ expanded_keys =
 -- How many constants there are, and the last two (tables 2.8 to 2.12).
 pub constants_examples : List Case
 constants_examples =
-    (length (constants 16) ∷ get_or (constants 16) 58 0 ∷ get_or (constants 16) 59 0 ∷ [] gives 60 ∷ 0x1052b098 ∷ 0x7c73b3a7
+    (length (constants 16) ∷ get_or (constants 16) 58 0 ∷ get_or (constants 16) 59 0 ∷ [] gives
+    60 ∷ 0x1052b098 ∷ 0x7c73b3a7
     ∷ [])
     ∷ (length (constants 24) ∷ get_or (constants 24) 82 0 ∷ get_or (constants 24) 83 0 ∷ [] gives 84 ∷ 0x3e51ec9e
     ∷ 0x5270b089 ∷ [])
@@ -71,25 +72,27 @@ block_examples =
     (encrypt_under one_round clear_block gives rounded_block)
     ∷ (decrypt_under one_round rounded_block gives clear_block)
     ∷ (decrypt_under two_rounds (encrypt_under two_rounds clear_block) gives clear_block)
-    ∷ (round_count (replicate 40 0) ∷ round_count (replicate 48 0) ∷ round_count (replicate 56 0) ∷ [] gives 18 ∷ 22 ∷ 26
+    ∷ (round_count (replicate 40 0) ∷ round_count (replicate 48 0) ∷ round_count (replicate 56 0) ∷ [] gives
+    18 ∷ 22 ∷ 26
     ∷ [])
     ∷ []
 
 pub block_examples_hold : AllHold block_examples
-unfolding block_examples all_same from_digits to_digits digits_of numbers_of xors double add_product product squares inverse
-    ss0 ss1 ss2 ss3 s0 s1 bit_of sum_of_bits affine f_rows g_rows m0 m1 matrix_entry row_times matrix_times substitute f0 f1
-    feistel rotate_branches rounds undo_rounds network inverse_network whiten round_count encrypt_words decrypt_words
-    encrypt_under decrypt_under
+unfolding block_examples all_same from_digits to_digits digits_of numbers_of xors double add_product product squares
+    inverse ss0 ss1 ss2 ss3 s0 s1 bit_of sum_of_bits affine f_rows g_rows m0 m1 matrix_entry row_times matrix_times
+    substitute f0 f1 feistel rotate_branches rounds undo_rounds network inverse_network whiten round_count
+    encrypt_words decrypt_words encrypt_under decrypt_under
 block_examples_hold = computed block_examples refl
 
 pub constants_examples_hold : AllHold constants_examples
-unfolding constants_examples all_same complement rotate divide_by_z even_constant odd_constant constants_from first_t constants
+unfolding constants_examples all_same complement rotate divide_by_z even_constant odd_constant constants_from first_t
+    constants
 constants_examples_hold = computed constants_examples refl
 
 pub expanded_keys_hold : AllHold expanded_keys
 unfolding expanded_keys all_same complement rotate from_digits to_digits digits_of numbers_of four_at xors divide_by_z
-    even_constant odd_constant constants_from first_t constants double add_product product squares inverse ss0 ss1 ss2 ss3 s0
-    s1 bit_of sum_of_bits affine f_rows g_rows m0 m1 matrix_entry row_times matrix_times substitute f0 f1 feistel
-    rotate_branches rounds network bit_range double_swap_bits double_swap step_keys round_keys expand_short expand_long
-    extend_key expand_key_words expand_key
+    even_constant odd_constant constants_from first_t constants double add_product product squares inverse ss0 ss1 ss2
+    ss3 s0 s1 bit_of sum_of_bits affine f_rows g_rows m0 m1 matrix_entry row_times matrix_times substitute f0 f1
+    feistel rotate_branches rounds network bit_range double_swap_bits double_swap step_keys round_keys expand_short
+    expand_long extend_key expand_key_words expand_key
 expanded_keys_hold = computed expanded_keys refl

@@ -37,7 +37,8 @@ module _ (book : List ℕ) {records : ℕ} (e : Accepted records ≡ book_answer
     no_sheet h = answered_refused out (after_book ∙ judged_false (le-ltb i (sheet_count book) h) 13 _ _)
 
     pub a_sheet : {r : Answer} {exit : List ℕ} → i < sheet_count book
-        → Answered (judged (output_check (32 * line_count i book) out ∷ []) (accepted (line_count i book) (page i book)))
+        → Answered (judged (output_check (32 * line_count i book) out ∷ []) (accepted (line_count i book)
+        (page i book)))
         out r exit → Answered (page_call book i out) out r exit
     unfolding sheet_check
     a_sheet h g = answered_same (after_book ∙ judged_true (lt-ltb i (sheet_count book) h) 13 _ _) g

@@ -38,14 +38,16 @@ module _ {book : List ℕ} (i : ℕ) (f : Formed book) (there : i < sheet_count 
 
   -- Check 4 fails, or the page is written.
   pub wrong_length : (out : List ℕ) → (length out ≡ 32 * ((n.at - c.at) / 16 + 1) → ⊥)
-      → Answered (judged (output_check (32 * line_count i book) out ∷ []) (accepted (line_count i book) (page i book))) out
+      → Answered (judged (output_check (32 * line_count i book) out ∷ []) (accepted (line_count i book)
+      (page i book))) out
       (Refused 4) out
   unfolding output_check
   wrong_length out h = answered_refused out (judged_false (ne_eqb _ _ (rw records_between at h)) 4 [] _)
 
   pub page_written : (out : List ℕ) {exit : List ℕ} → length out ≡ 32 * ((n.at - c.at) / 16 + 1)
       → exit ≡ heading ++ lines (pieces 16 ((n.at - c.at) / 16) (take (n.at - c.at) (drop c.at book)))
-      → Answered (judged (output_check (32 * line_count i book) out ∷ []) (accepted (line_count i book) (page i book))) out
+      → Answered (judged (output_check (32 * line_count i book) out ∷ []) (accepted (line_count i book)
+      (page i book))) out
       (Accepted ((n.at - c.at) / 16 + 1)) exit
   unfolding output_check page
   page_written out h e =

@@ -115,7 +115,8 @@ field_put at w n c out h =
 -- them.
 pub line_put : (a b c d e : ℕ) (o p q r s : List ℕ) → take 11 o ≡ number_field 10 a ++ (32 ∷ [])
     → take 22 p ≡ take 11 o ++ (number_field 10 b ++ (32 ∷ []))
-    → take 24 q ≡ take 22 p ++ (number_field 1 c ++ (32 ∷ [])) → take 28 r ≡ take 24 q ++ (number_field 3 d ++ (32 ∷ []))
+    → take 24 q ≡ take 22 p ++ (number_field 1 c ++ (32 ∷ [])) → take 28 r
+    ≡ take 24 q ++ (number_field 3 d ++ (32 ∷ []))
     → take 32 s ≡ take 28 r ++ (number_field 3 e ++ (10 ∷ [])) → length s ≡ 32
     → s ≡ fields (number_field 10 a) (number_field 10 b) (number_field 1 c) (number_field 3 d) (number_field 3 e)
 line_put a b c d e o p q r s ho hp hq hr hs l = sym (take_all 32 s (le_of_eq l))

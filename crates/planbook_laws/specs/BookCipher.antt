@@ -60,20 +60,21 @@ module _ {f g h k : List ℕ → List ℕ → List ℕ} (kind kind' : ℕ) (cs c
       let s : Shaped kind book = book_shape cs kind h book out r p in
       let again : AllPass (form_and_records kind' g (map_bodies kind' f book)) =
       rw (map_bodies_form kind kind' s t, map_bodies_records kind kind' s t) (book_form cs kind h book out p) in
-      judged_pass (pass_append q (pass_append (output_passes _ out' (e ∙ sym (map_bodies_length kind kind' s t))) again))
+      judged_pass (pass_append q (pass_append (output_passes _ out' (e
+      ∙ sym (map_bodies_length kind kind' s t))) again))
       _
       ∙ ap₂ accepted (ap record_count (map_bodies_contents kind kind' s t))
       (map_bodies_through kind kind' s u ∙ map_bodies_as_it_is s)
 
-iv_bytes : (e : List ℕ) → Bytes 24 e → Bytes 16 (iv e)
+pub iv_bytes : (e : List ℕ) → Bytes 24 e → Bytes 16 (iv e)
 iv_bytes e b = sized_take 16 0 (sized_drop 8 16 b refl) refl
 
 module _ (E D : List ℕ → List ℕ) (block : BlockCipher E D) where
-  entries_encrypted : {kind : ℕ} {book : List ℕ} → Shaped kind book
+  pub entries_encrypted : {kind : ℕ} {book : List ℕ} → Shaped kind book
       → Every (Through (encrypt_body E) (decrypt_body D) as_it_is) (contents book)
   entries_encrypted s = every_map (λ e b. body_encrypted E D block e (iv_bytes e b)) (shaped_entries s)
 
-  entries_decrypted : {kind : ℕ} {book : List ℕ} → Shaped kind book
+  pub entries_decrypted : {kind : ℕ} {book : List ℕ} → Shaped kind book
       → Every (Through (decrypt_body D) (encrypt_body E) as_it_is) (contents book)
   entries_decrypted s = every_map (λ e b. body_decrypted E D block e (iv_bytes e b)) (shaped_entries s)
 

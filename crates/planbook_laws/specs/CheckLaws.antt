@@ -76,7 +76,8 @@ pub block_size : (block : List ℕ) {cs : List Check} → AllPass (block_check b
 unfolding block_check
 block_size block p = eqb-true _ _ (pass_head p)
 
-pub words_and_way_passes : (words : List ℕ) {w : ℕ} → WordsLength (length words) → Way w → AllPass (words_and_way words w)
+pub words_and_way_passes : (words : List ℕ) {w : ℕ} → WordsLength (length words) → Way w
+    → AllPass (words_and_way words w)
 words_and_way_passes words k w = pass_append (words_passes k) (way_passes w)
 
 -- Words that have passed in one call pass in any other, by any permitted way.

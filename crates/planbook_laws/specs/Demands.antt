@@ -5,7 +5,7 @@
 -- are those that the call for it has written.
 use Rattle.std.specs.Prelude.{ℕ, ◌*◌, ◌^◌, List, [], ◌∷◌, ◌++◌, ◌↔◌, ◌≡◌, length}
 use Rattle.std.proofs.Math.Path.{ap}
-use Rattle.std.proofs.Common.{◌∙◌, lit<}
+use Rattle.std.proofs.Common.{sym, ◌∙◌, lit<}
 use Rattle.clefia_spec.specs.Words.{from_digits, bytes_of, Below}
 use Rattle.clefia_spec.specs.Constants.{constants}
 use Rattle.clefia_spec.specs.KeySchedule.{expand_key}
@@ -21,7 +21,7 @@ use Rattle.planbook_spec.specs.Checks.{expanded_count, constants_call, expand_ke
 use Rattle.planbook_spec.specs.Checks.{decrypt_block_call}
 use Rattle.planbook_laws.specs.CheckLaws.{Way, WordsLength, block_size, block_passes, output_passes}
 use Rattle.planbook_laws.specs.CheckLaws.{words_and_way_passes, words_again}
-use Rattle.planbook_laws.specs.UnderKey.{Expanded, same_words, expanded_bytes, words_expanded}
+use Rattle.planbook_laws.specs.UnderKey.{Expanded, expanded_is, expanded_bytes, words_expanded}
 use Rattle.planbook_spec.specs.Book.{number, pieces, entries_hold, contents, record_count, form_checks, each_body}
 use Rattle.planbook_spec.specs.Book.{sheets_hold, records_check, as_it_is, decrypt_body, map_bodies, book_checks}
 use Rattle.planbook_spec.specs.Book.{encrypt_book_by, decrypt_book_by, encrypted_book, decrypted_book, encrypt_book_call}
@@ -40,7 +40,8 @@ unfolding constants_call
 demand1_constants keyLength out = judges _ _ _
 
 pub demand1_expand_key : (key : List ℕ) (way : ℕ) (out : List ℕ)
-    → Judges (key_and_way key way ++ (output_check (4 * expanded_count (length key)) out ∷ [])) (expanded_count (length key))
+    → Judges (key_and_way key way ++ (output_check (4 * expanded_count (length key)) out ∷ []))
+    (expanded_count (length key))
     (bytes_of (expand_key key)) (expand_key_call key way out)
 unfolding expand_key_call
 demand1_expand_key key way out = judges _ _ _
@@ -92,7 +93,8 @@ module _ (words : List ℕ) (bytes : Below 256 words) (way way' : ℕ) (permitte
       → length out' ≡ length book → decrypt_book_call words way' encrypted out' ≡ accepted n book
   unfolding encrypt_book_call encrypt_book_by book_checks decrypt_book_call
   demand2_decrypts_under book out out' r a e =
-      encrypted_decrypts _ _ (cipher_from_bytes bytes) (words_and_way words way) (words_and_way words way') book out out' r a
+      encrypted_decrypts _ _ (cipher_from_bytes bytes) (words_and_way words way)
+      (words_and_way words way') book out out' r a
       (words_again words (passed _ _ _ a).checks permitted) e
 
   -- An opened book seals to the same sealed bytes.
@@ -101,7 +103,8 @@ module _ (words : List ℕ) (bytes : Below 256 words) (way way' : ℕ) (permitte
       → length out' ≡ length book → encrypt_book_call words way' decrypted out' ≡ accepted n book
   unfolding decrypt_book_call decrypt_book_by book_checks encrypt_book_call
   demand2_encrypts_under book out out' r a e =
-      decrypted_encrypts _ _ (cipher_from_bytes bytes) (words_and_way words way) (words_and_way words way') book out out' r a
+      decrypted_encrypts _ _ (cipher_from_bytes bytes) (words_and_way words way)
+      (words_and_way words way') book out out' r a
       (words_again words (passed _ _ _ a).checks permitted) e
 
   -- So with single blocks: what one call has made, by F, the other one, by G, undoes.
@@ -120,13 +123,15 @@ module _ (words : List ℕ) (bytes : Below 256 words) (way way' : ℕ) (permitte
 
   pub demand2_block_decrypts_under : (block out out' : List ℕ) {n : ℕ} {bs : List ℕ} → Below 256 block
       → length out' ≡ 16
-      → encrypt_block_call words way block out ≡ accepted n bs → decrypt_block_call words way' bs out' ≡ accepted n block
+      → encrypt_block_call words way block out ≡ accepted n bs → decrypt_block_call words way' bs out'
+      ≡ accepted n block
   unfolding encrypt_block_call decrypt_block_call
   demand2_block_decrypts_under = block_comes_back (cipher_from_bytes bytes).encrypted
 
   pub demand2_block_encrypts_under : (block out out' : List ℕ) {n : ℕ} {bs : List ℕ} → Below 256 block
       → length out' ≡ 16
-      → decrypt_block_call words way block out ≡ accepted n bs → encrypt_block_call words way' bs out' ≡ accepted n block
+      → decrypt_block_call words way block out ≡ accepted n bs → encrypt_block_call words way' bs out'
+      ≡ accepted n block
   unfolding encrypt_block_call decrypt_block_call
   demand2_block_encrypts_under = block_comes_back (cipher_from_bytes bytes).decrypted
 
@@ -135,7 +140,7 @@ module _ (words : List ℕ) (bytes : Below 256 words) (way way' : ℕ) (permitte
 module _ (key : List ℕ) {words words' : List ℕ} (made : Expanded key words) (made' : Expanded key words') (way way' : ℕ)
     (permitted : Way way') where
   same : words' ≡ words
-  same = same_words made' made
+  same = sym (expanded_is made') ∙ expanded_is made
 
   pub demand2_decrypts : (book out out' : List ℕ) {n : ℕ} {encrypted : List ℕ} → Below 256 book
       → encrypt_book_call words way book out ≡ accepted n encrypted
@@ -150,12 +155,14 @@ module _ (key : List ℕ) {words words' : List ℕ} (made : Expanded key words) 
       (demand2_encrypts_under words (expanded_bytes made) way way' permitted book out out' r a e)
 
   pub demand2_block_decrypts : (block out out' : List ℕ) {n : ℕ} {bs : List ℕ} → Below 256 block → length out' ≡ 16
-      → encrypt_block_call words way block out ≡ accepted n bs → decrypt_block_call words' way' bs out' ≡ accepted n block
+      → encrypt_block_call words way block out ≡ accepted n bs → decrypt_block_call words' way' bs out'
+      ≡ accepted n block
   demand2_block_decrypts block out out' r e a =
       rw same (demand2_block_decrypts_under words (expanded_bytes made) way way' permitted block out out' r e a)
 
   pub demand2_block_encrypts : (block out out' : List ℕ) {n : ℕ} {bs : List ℕ} → Below 256 block → length out' ≡ 16
-      → decrypt_block_call words way block out ≡ accepted n bs → encrypt_block_call words' way' bs out' ≡ accepted n block
+      → decrypt_block_call words way block out ≡ accepted n bs → encrypt_block_call words' way' bs out'
+      ≡ accepted n block
   demand2_block_encrypts block out out' r e a =
       rw same (demand2_block_encrypts_under words (expanded_bytes made) way way' permitted block out out' r e a)
 
@@ -196,16 +203,17 @@ pub demand3 : (key : List ℕ) → Below 256 key → {words words' : List ℕ} �
     (after out' (encrypt_book_call words' way' b out'))
 unfolding encrypt
 demand3 key bytes {words} made made' way way' a b out out' ra rb pa pb =
-    rw (same_words made' made)
+    rw (sym (expanded_is made') ∙ expanded_is made)
     (rw (words_expanded bytes made) at
-    (demand3_under words (expanded_bytes made) way way' a b out out' ra rb pa (rw (same_words made' made) at pb)))
+    (demand3_under words (expanded_bytes made) way way' a b out out' ra rb pa (rw (sym (expanded_is made')
+    ∙ expanded_is made) at pb)))
 
 -- The empty book, under any words of a permitted count and by any way: it is sealed to its head
 -- with another first byte, with the count 0.
 pub empty_book : (words out : List ℕ) {way : ℕ} → WordsLength (length words) → Way way → length out ≡ 4
     → encrypt_book_call words way (1 ∷ 0 ∷ 0 ∷ 0 ∷ []) out ≡ accepted 0 (2 ∷ 0 ∷ 0 ∷ 0 ∷ [])
-unfolding from_digits number pieces entries_hold record_count form_checks each_body sheets_hold records_check map_bodies
-    book_checks encrypt_book_by encrypt_book_call
+unfolding from_digits number pieces entries_hold record_count form_checks each_body sheets_hold records_check
+    map_bodies book_checks encrypt_book_by encrypt_book_call
 empty_book words out k w e =
     judged_pass (pass_append (words_and_way_passes words k w)
     (pass_append (output_passes 4 out e) (more (more (more (more (more (more (more none))))))))) _

@@ -22,7 +22,7 @@ use Rattle.planbook_spec.specs.Book.{number}
 use Rattle.planbook_spec.specs.Note.{counter_block, keystream, block_count, ctr, note_check, note_checks, crypt_note_by}
 use Rattle.planbook_spec.specs.Note.{crypt_note_call}
 use Rattle.planbook_laws.specs.CheckLaws.{Way, block_size, output_size, block_passes, output_passes, words_again}
-use Rattle.planbook_laws.specs.UnderKey.{Expanded, same_words}
+use Rattle.planbook_laws.specs.UnderKey.{Expanded, expanded_is}
 
 -- ---- counter blocks
 
@@ -134,7 +134,8 @@ note_passed cs counter note out p =
     }
 
 module _ (E : List ℕ → List ℕ) (cs cs' : List Check) (counter : List ℕ) where
-  pub crypted_back : (note out out' : List ℕ) {n : ℕ} {bs : List ℕ} → crypt_note_by cs E counter note out ≡ accepted n bs
+  pub crypted_back : (note out out' : List ℕ) {n : ℕ} {bs : List ℕ} → crypt_note_by cs E counter note out
+      ≡ accepted n bs
       → AllPass cs' → length out' ≡ length note
       → crypt_note_by cs' E counter bs out' ≡ accepted n note
   unfolding crypt_note_by note_checks
@@ -191,20 +192,22 @@ module _ (key : List ℕ) {words words' : List ℕ} (made : Expanded key words) 
       → crypt_note_call words way counter note out ≡ accepted n bs → length out' ≡ length note
       → crypt_note_call words' way' counter bs out' ≡ accepted n note
   note_comes_back permitted note out out' a e =
-      rw (same_words made' made) (note_comes_back_under words way way' counter permitted note out out' a e)
+      rw (sym (expanded_is made') ∙ expanded_is made)
+      (note_comes_back_under words way way' counter permitted note out out' a e)
 
   pub notes_alike : (a b out out' : List ℕ) → Accepted (crypt_note_call words way counter a out)
       → Accepted (crypt_note_call words' way' counter b out')
       → (after out (crypt_note_call words way counter a out) ≡ after out' (crypt_note_call words' way' counter b out'))
       ↔ (a ≡ b)
   notes_alike a b out out' pa pb =
-      rw (same_words made' made) (notes_alike_under words way way' counter a b out out' pa
-      (rw (same_words made' made) at pb))
+      rw (sym (expanded_is made') ∙ expanded_is made) (notes_alike_under words way way' counter a b out out' pa
+      (rw (sym (expanded_is made') ∙ expanded_is made) at pb))
 
 -- Within one note no counter block comes twice.
 pub note_counters_differ : (words : List ℕ) (way : ℕ) (counter note out : List ℕ) {n : ℕ} {bs : List ℕ}
     → crypt_note_call words way counter note out ≡ accepted n bs
-    → {i j : ℕ} → i < block_count note → j < block_count note → counter_block counter i ≡ counter_block counter j → i ≡ j
+    → {i j : ℕ} → i < block_count note → j < block_count note → counter_block counter i ≡ counter_block counter j
+    → i ≡ j
 unfolding crypt_note_call crypt_note_by block_count
 note_counters_differ words way counter note out a h k e =
     let s : length note ≤ 16384 = (note_passed (words_and_way words way) counter note out

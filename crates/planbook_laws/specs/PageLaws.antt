@@ -151,12 +151,16 @@ read_decimal (suc k) n h =
     by_test true e q = let s : n < 10 = ltb-true n 10 e in omega arith
     by_test false e q = omega arith
 
-pub field_back : (w n : ℕ) → n < 10 ^ w → read_on 0 (number_field w n) ≡ n
+read_field : (w n : ℕ) → read_on 0 (number_field w n) ≡ read_on 0 (decimal w n)
 unfolding right_aligned
-field_back w n h = read_spaces (w - length (decimal w n)) (decimal w n) ∙ read_decimal w n h
+read_field w n = read_spaces (w - length (decimal w n)) (decimal w n)
+
+pub field_back : (w n : ℕ) → n < 10 ^ w → read_on 0 (number_field w n) ≡ n
+field_back w n h = read_field w n ∙ read_decimal w n h
 
 pub fields_differ : (w : ℕ) {m n : ℕ} → m < 10 ^ w → n < 10 ^ w → number_field w m ≡ number_field w n → m ≡ n
-fields_differ w {m} {n} h k e = sym (field_back w m h) ∙ ap (read_on 0) e ∙ field_back w n k
+fields_differ w {m} {n} h k e =
+    sym (read_decimal w m h) ∙ sym (read_field w m) ∙ ap (read_on 0) e ∙ read_field w n ∙ read_decimal w n k
 
 -- ---- a line shows its record
 
@@ -274,9 +278,9 @@ number_small at k {r} b h =
     let q : Bytes k (take k (drop at r)) = part_bytes at k b h in
     rw q.size at (from_digits_lt (lit< tt) q.below)
 
-kept : (e : List ℕ) {r : List ℕ} → replicates e ≤ 8 → Bytes 16 r → record_holds e r ≡ true → Kept r
+shown : (e : List ℕ) {r : List ℕ} → replicates e < 10 → Bytes 16 r → record_holds e r ≡ true → Kept r
 unfolding record_holds
-kept e {r} few b h =
+shown e {r} few b h =
     let front : Bool = eqb (record_trial r) (trial e) && leb 1 (record_entry r) && leb 1 (record_replicate r) in
     let greatest : Bool = leb (record_replicate r) (replicates e) in
     let f = both_true (front && greatest && plot_holds (record_row r) (record_column r)) (eqb (number 13 3 r) 0) h in
@@ -299,6 +303,10 @@ kept e {r} few b h =
     word : (at : ℕ) → at + 4 ≤ 16 → number at 4 r < 10 ^ 10
     word at k = omega (arith, number_small at 4 b k)
 
+-- And so of each record of a sheet that check 9 lets through.
+kept : (e : List ℕ) {r : List ℕ} → replicates e ≤ 8 → Bytes 16 r → record_holds e r ≡ true → Kept r
+kept e few b h = shown e (omega (arith, few)) b h
+
 -- So two sheets of equal lines have equal bodies.
 lines_say : (n : ℕ) (e e' : List ℕ) {b b' : List ℕ} → replicates e ≤ 8 → replicates e' ≤ 8 → Bytes (16 * n) b
     → Bytes (16 * n) b'
@@ -311,8 +319,8 @@ lines_say (suc n) e e' {b} {b'} few few' p p' h h' q =
     let t' = both_true (record_holds e' (take 16 b')) _ h' in
     let r : Bytes 16 (take 16 b) = sized_take 16 (16 * n) p (omega arith) in
     let r' : Bytes 16 (take 16 b') = sized_take 16 (16 * n) p' (omega arith) in
-    let k : Kept (take 16 b) = kept e few r t.0 in
-    let k' : Kept (take 16 b') = kept e' few' r' t'.0 in
+    let k : Kept (take 16 b) = shown e (omega (arith, few)) r t.0 in
+    let k' : Kept (take 16 b') = shown e' (omega (arith, few')) r' t'.0 in
     let s = equal_parts 32 (line (take 16 b)) (line (take 16 b')) (length_line (take 16 b))
     (length_line (take 16 b')) q in
     let first : take 16 b ≡ take 16 b' = same_record r r' (same_numbers k.fits k'.fits s.0)
@@ -395,7 +403,8 @@ accepted_sheet book i out below a =
 -- bodies of the two sheets are. Their indices may differ too.
 pub pages_alike : (book book' : List ℕ) (i i' : ℕ) (out out' : List ℕ) → Below 256 book → Below 256 book'
     → Accepted (page_call book i out) → Accepted (page_call book' i' out')
-    → (after out (page_call book i out) ≡ after out' (page_call book' i' out')) ↔ (sheet_body i book ≡ sheet_body i' book')
+    → (after out (page_call book i out) ≡ after out' (page_call book' i' out')) ↔ (sheet_body i book
+    ≡ sheet_body i' book')
 pages_alike book book' i i' out out' below below' a a' =
     let s = accepted_sheet book i out below (accepted_is a out) in
     let s' = accepted_sheet book' i' out' below' (accepted_is a' out') in

@@ -60,7 +60,8 @@ past_entries_hold rule previous (e ∷ es) = rule.holds previous e && past_entri
 
 -- A record, given the entry of its sheet: any row and any column.
 unfoldable pub past_record_holds : PastRule → List ℕ → List ℕ → Bool
-past_record_holds rule e r = eqb (record_trial r) (trial e) && leb 1 (record_entry r) && leb 1 (record_replicate r) && leb
+past_record_holds rule e r = eqb (record_trial r) (trial e) && leb 1 (record_entry r) && leb 1
+    (record_replicate r) && leb
     (record_replicate r) (rule.most e) && eqb (number 13 3 r) 0
 
 -- Whether P holds of every record of a sheet; and of every sheet, given its entry, once its body
@@ -71,7 +72,8 @@ every_record P (r ∷ rs) = P r && every_record P rs
 
 unfoldable pub every_sheet : (List ℕ → List ℕ → Bool) → (List ℕ → List ℕ → List ℕ) → List (List ℕ) → List ℕ → Bool
 every_sheet P f [] bs = true
-every_sheet P f (e ∷ es) bs = every_record (P e) (pieces 16 (count e) (f e (take (16 * count e) bs))) && every_sheet P f es
+every_sheet P f (e ∷ es) bs = every_record (P e)
+    (pieces 16 (count e) (f e (take (16 * count e) bs))) && every_sheet P f es
     (drop (16 * count e) bs)
 
 -- Checks 4 to 10.

@@ -2,7 +2,7 @@
 -- call's contract states `Answers`, and nothing else of the call is used here. Keys, words, blocks
 -- and books are lists of bytes: Below 256.
 use Rattle.std.specs.Prelude.{ℕ, ◌*◌, ◌/◌, ◌^◌, ◌≤◌, ◌<◌, Bool, true, false, ◌&&◌, List, [], ◌∷◌, ◌↔◌, ◌⊎◌, ◌≡◌, eqb, leb}
-use Rattle.std.proofs.Common.{inl, inr, ⊎_elim, sym, ap, subst, arith, leb-true}
+use Rattle.std.proofs.Common.{inl, inr, ⊎_elim, sym, ap, subst, ◌∙◌, arith, leb-true}
 use Rattle.std.proofs.Math.Path.{refl}
 use Rattle.std.proofs.Math.Dec.{lit<}
 use Rattle.std.proofs.Math.ListN.{length}
@@ -15,7 +15,7 @@ use Rattle.planbook_spec.specs.Checks.{key_check, way_check, block_check, output
 use Rattle.planbook_spec.specs.Checks.{words_and_way, constant_count, expanded_count, constants_call, expand_key_call}
 use Rattle.planbook_spec.specs.Checks.{block_checks, encrypt_block_call, decrypt_block_call}
 use Rattle.planbook_laws.specs.CheckLaws.{Way}
-use Rattle.planbook_laws.specs.UnderKey.{Expanded, expanded, same_words, expanded_bytes, words_expanded}
+use Rattle.planbook_laws.specs.UnderKey.{Expanded, expanded, expanded_is, expanded_bytes, words_expanded}
 use Rattle.planbook_spec.specs.Book.{sheet_body, form_checks, records_check, as_it_is, decrypt_body, book_checks}
 use Rattle.planbook_spec.specs.Book.{encrypt_book_by, decrypt_book_by, encrypt_book_call, decrypt_book_call}
 use Rattle.planbook_spec.specs.Note.{note_check, note_checks, crypt_note_by, crypt_note_call}
@@ -144,7 +144,8 @@ module _ (words : List ℕ) (way : ℕ) where
   pub readable_crypt_note : (counter note out : List ℕ) → Readable (crypt_note_call words way counter note out)
   unfolding crypt_note_call crypt_note_by note_checks words_check way_check block_check output_check note_check numbered
   readable_crypt_note counter note out = readable _ _ _ refl
-      (λ p. let s : length note ≤ 16384 = (note_passed (words_and_way words way) counter note out p).short in omega arith)
+      (λ p. let s : length note ≤ 16384 = (note_passed (words_and_way words way) counter note out p).short in
+      omega arith)
 
 pub readable_page : (book : List ℕ) (i : ℕ) (out : List ℕ) → Readable (page_call book i out)
 unfolding page_call page_checks form_checks records_check sheet_check output_check numbered
@@ -169,13 +170,15 @@ module _ (words : List ℕ) (bytes : Below 256 words) (way way' : ℕ) (permitte
       (demand2_encrypts_under words bytes way way' permitted src out out' below
       (accepts (readable_decrypt_book words way src out) a small) e)
 
-  pub demand2_block_decrypts_under_received : Answers (encrypt_block_call words way src out) out r exit → length out' ≡ 16
+  pub demand2_block_decrypts_under_received : Answers (encrypt_block_call words way src out) out r exit
+      → length out' ≡ 16
       → Answers (decrypt_block_call words way' exit out') out' r' exit' → (r' ≡ r) × (exit' ≡ src)
   demand2_block_decrypts_under_received a e =
       number_and_output (demand2_block_decrypts_under words bytes way way' permitted src out out' below e
       (accepts (readable_encrypt_block words way src out) a small))
 
-  pub demand2_block_encrypts_under_received : Answers (decrypt_block_call words way src out) out r exit → length out' ≡ 16
+  pub demand2_block_encrypts_under_received : Answers (decrypt_block_call words way src out) out r exit
+      → length out' ≡ 16
       → Answers (encrypt_block_call words way' exit out') out' r' exit' → (r' ≡ r) × (exit' ≡ src)
   demand2_block_encrypts_under_received a e =
       number_and_output (demand2_block_encrypts_under words bytes way way' permitted src out out' below e
@@ -227,7 +230,7 @@ expanded_received key way out a small = expanded way out (accepts (readable_expa
 module _ {key words words' : List ℕ} (made : Expanded key words) (made' : Expanded key words') (o : List ℕ → Outcome)
     {out : List ℕ} {r : ℕ} {exit : List ℕ} where
   as_first : Answers (o words') out r exit → Answers (o words) out r exit
-  as_first a = rw (same_words made made') a
+  as_first a = rw (sym (expanded_is made) ∙ expanded_is made') a
 
 module _ (key : List ℕ) {words words' : List ℕ} (made : Expanded key words) (made' : Expanded key words') (way way' : ℕ)
     (permitted : Way way') (src out out' : List ℕ) (below : Below 256 src) {r r' : ℕ} {exit exit' : List ℕ}

@@ -22,7 +22,7 @@ use Rattle.planbook_spec.specs.Note.{note_checks, crypt_note_by, crypt_note_call
 pub data Expanded (key words : List ℕ) : Type 0 where
   expanded : (way : ℕ) (out : List ℕ) {n : ℕ} → expand_key_call key way out ≡ accepted n words → Expanded key words
 
-expanded_is : {key words : List ℕ} → Expanded key words → bytes_of (expand_key key) ≡ words
+pub expanded_is : {key words : List ℕ} → Expanded key words → bytes_of (expand_key key) ≡ words
 unfolding expand_key_call
 expanded_is (expanded way out e) = (passed _ _ _ e).same_bytes
 

@@ -23,10 +23,10 @@ pub record BlockCipher (E D : List ℕ → List ℕ) : Type 0 where
 one_more : (n : ℕ) {c rest : List ℕ} → Bytes 16 c → Bytes (16 * n) rest → Bytes (16 * suc n) (c ++ rest)
 one_more n p q = sized_append 16 (16 * n) p q (omega arith)
 
-first_block : (n : ℕ) {bs : List ℕ} → Bytes (16 * suc n) bs → Bytes 16 (take 16 bs)
+pub first_block : (n : ℕ) {bs : List ℕ} → Bytes (16 * suc n) bs → Bytes 16 (take 16 bs)
 first_block n b = sized_take 16 (16 * n) b (omega arith)
 
-other_blocks : (n : ℕ) {bs : List ℕ} → Bytes (16 * suc n) bs → Bytes (16 * n) (drop 16 bs)
+pub other_blocks : (n : ℕ) {bs : List ℕ} → Bytes (16 * suc n) bs → Bytes (16 * n) (drop 16 bs)
 other_blocks n b = sized_drop 16 (16 * n) b (omega arith)
 
 pub empty : (bs : List ℕ) → Bytes (16 * zero) bs → [] ≡ bs
@@ -86,14 +86,16 @@ module _ (E D : List ℕ → List ℕ) (block : BlockCipher E D) where
       (take-append-drop 16 bs)
 
   -- A chain of n blocks after p, both ways.
-  pub cbc_encrypted : (n : ℕ) (p : List ℕ) → Bytes 16 p → Undone (Bytes (16 * n)) (cbc_encrypt E n p) (cbc_decrypt D n p)
+  pub cbc_encrypted : (n : ℕ) (p : List ℕ) → Bytes 16 p → Undone (Bytes (16 * n)) (cbc_encrypt E n p)
+      (cbc_decrypt D n p)
   cbc_encrypted n p i = record {
     keeps = λ bs b. cbc_encrypt_keeps n p bs i b;
     back =
         λ bs b. cbc_encrypt_back n p bs i b;
   }
 
-  pub cbc_decrypted : (n : ℕ) (p : List ℕ) → Bytes 16 p → Undone (Bytes (16 * n)) (cbc_decrypt D n p) (cbc_encrypt E n p)
+  pub cbc_decrypted : (n : ℕ) (p : List ℕ) → Bytes 16 p → Undone (Bytes (16 * n)) (cbc_decrypt D n p)
+      (cbc_encrypt E n p)
   cbc_decrypted n p i = record {
     keeps = λ bs b. cbc_decrypt_keeps n p bs i b;
     back =
@@ -117,12 +119,12 @@ pub record Through (f g h : List ℕ → List ℕ → List ℕ) (e : List ℕ) :
   pub keeps : (x : List ℕ) → Bytes (16 * count e) x → Bytes (16 * count e) (f e x)
   pub meets : (x : List ℕ) → Bytes (16 * count e) x → g e (f e x) ≡ h e x
 
-first_body : (e : List ℕ) (es : List (List ℕ)) {bs : List ℕ} → Bytes (16 * record_count (e ∷ es)) bs
+pub first_body : (e : List ℕ) (es : List (List ℕ)) {bs : List ℕ} → Bytes (16 * record_count (e ∷ es)) bs
     → Bytes (16 * count e) (take (16 * count e) bs)
 unfolding record_count
 first_body e es b = sized_take (16 * count e) (16 * record_count es) b (omega arith)
 
-other_bodies : (e : List ℕ) (es : List (List ℕ)) {bs : List ℕ} → Bytes (16 * record_count (e ∷ es)) bs
+pub other_bodies : (e : List ℕ) (es : List (List ℕ)) {bs : List ℕ} → Bytes (16 * record_count (e ∷ es)) bs
     → Bytes (16 * record_count es) (drop (16 * count e) bs)
 unfolding record_count
 other_bodies e es b = sized_drop (16 * count e) (16 * record_count es) b (omega arith)

@@ -42,7 +42,8 @@ first_at at bs = get_or-drop at bs 0 0 ∙ ap (λ (i : ℕ). get_or bs i 0) (add
 byte_at : (at i : ℕ) (bs : List ℕ) → get_or (drop at bs) i 0 ≡ get_or bs (at + i) 0
 byte_at at i bs = get_or-drop at bs i 0
 
-pub number_two : (at : ℕ) (bs : List ℕ) → at + 2 ≤ length bs → number at 2 bs ≡ get_or bs at 0 * 256 + get_or bs (at + 1) 0
+pub number_two : (at : ℕ) (bs : List ℕ) → at + 2 ≤ length bs → number at 2 bs ≡ get_or bs at 0 * 256 + get_or bs
+    (at + 1) 0
 unfolding number
 number_two at bs h = rw (take_two (drop at bs) (omega (arith, length-drop at bs)), first_at at bs, byte_at at 1 bs)
     (from_two _ _)

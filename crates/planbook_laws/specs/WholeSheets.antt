@@ -17,7 +17,7 @@ use Rattle.planbook_spec.specs.Book.{sheet_body, form_checks, each_body, as_it_i
 use Rattle.planbook_spec.specs.BookSheets.{WholeSheet, sheets_from, sheets_of, join_entries, join_bodies, book_of, on_body}
 use Rattle.planbook_laws.specs.Undoing.{Every, nothing, both, every_map, Through, first_body, other_bodies}
 use Rattle.planbook_laws.specs.BookLaws.{formed, Shaped, shaped, shape, shaped_entries, map_bodies_as_it_is}
-use Rattle.planbook_laws.specs.SheetLaws.{nthEntry, nthBody, nthEntry-next, nthBody-next}
+use Rattle.planbook_laws.specs.SheetLaws.{nth_entry, nth_body, nth_entry_next, nth_body_next}
 
 -- ---- lists of sheets
 
@@ -41,7 +41,8 @@ module _ (f : List ℕ → List ℕ → List ℕ) where
   mapped_entries [] = refl
   mapped_entries (s ∷ ss) = ap (λ (l : List ℕ). s.entry ++ l) (mapped_entries ss)
 
-  mapped_bodies : (es : List (List ℕ)) (bs : List ℕ) → join_bodies (map (on_body f) (sheets_from es bs)) ≡ each_body f es bs
+  mapped_bodies : (es : List (List ℕ)) (bs : List ℕ) → join_bodies (map (on_body f) (sheets_from es bs))
+      ≡ each_body f es bs
   unfolding join_bodies sheets_from each_body
   mapped_bodies [] bs = refl
   mapped_bodies (e ∷ es) bs = ap (λ (l : List ℕ). f e (take (16 * count e) bs) ++ l)
@@ -177,12 +178,12 @@ abbrev pub whole_sheet : ℕ → List ℕ → WholeSheet
 whole_sheet i book = record { entry = sheet_entry i book; body = sheet_body i book }
 
 sheet_from : (d : WholeSheet) (i n : ℕ) (xs bs : List ℕ) → i < n
-    → get_or (sheets_from (pieces 24 n xs) bs) i d ≡ record { entry = nthEntry i xs; body = nthBody i xs bs }
+    → get_or (sheets_from (pieces 24 n xs) bs) i d ≡ record { entry = nth_entry i xs; body = nth_body i xs bs }
 unfolding pieces sheets_from record_count
 sheet_from d i zero xs bs h = absurd (omega arith)
 sheet_from d zero (suc n) xs bs h = refl
 sheet_from d (suc i) (suc n) xs bs h =
-    rw (nthBody-next i xs bs, nthEntry-next i xs)
+    rw (nth_body_next i xs bs, nth_entry_next i xs)
     (sheet_from d i n (drop 24 xs) (drop (16 * count (take 24 xs)) bs) (omega arith))
 
 -- It is the one at place i of the sheets.
@@ -202,7 +203,8 @@ pub sheet_mapped : {f g h : List ℕ → List ℕ → List ℕ} (kind kind' : �
     → whole_sheet i (map_bodies kind' f book) ≡ on_body f (whole_sheet i book)
 sheet_mapped {f} kind kind' book below form t i there =
     let d : WholeSheet = whole_sheet i book in
-    let n : sheet_count (map_bodies kind' f book) ≡ sheet_count book = same_count kind' f (shape kind book below form) in
+    let n : sheet_count (map_bodies kind' f book) ≡ sheet_count book =
+    same_count kind' f (shape kind book below form) in
     sym (sheet_at (on_body f d) i (map_bodies kind' f book) (rw n there))
     ∙ ap (λ (ss : List WholeSheet). get_or ss i (on_body f d)) (sheets_mapped kind kind' book below form t)
     ∙ get_or-map (on_body f) (sheets_of book) i d

@@ -189,9 +189,10 @@ book_cases =
     ∷ []
 
 pub book_cases_hold : AllHold book_cases
-unfolding book_cases rising all_same from_digits to_digits xors answer after judged output_check number pieces replicates
-    entry_holds entries_hold plot_holds record_holds all_records_hold record_count form_checks each_body sheets_hold records_check
-    cbc_encrypt cbc_decrypt encrypt_body decrypt_body map_bodies book_checks encrypt_book_by decrypt_book_by
+unfolding book_cases rising all_same from_digits to_digits xors answer after judged output_check number pieces
+    replicates entry_holds entries_hold plot_holds record_holds all_records_hold record_count form_checks each_body
+    sheets_hold records_check cbc_encrypt cbc_decrypt encrypt_body decrypt_body map_bodies book_checks encrypt_book_by
+    decrypt_book_by
 book_cases_hold = computed book_cases refl
 
 -- What both calls for a block answer under words of w bytes, by a way, to a block of n bytes with
@@ -239,7 +240,8 @@ call_cases =
     ∷ []) gives replicate 32 (14 * 2 ^ 32))
     ∷ (lengths_answers (160 ∷ 192 ∷ 224 ∷ []) gives replicate 6 1)
     -- blocks: 14, 2, 3, 4
-    ∷ (block_answers 161 4 15 15 ++ block_answers 0 1 15 16 ++ block_answers 225 2 16 17 gives replicate 6 (14 * 2 ^ 32))
+    ∷ (block_answers 161 4 15 15 ++ block_answers 0 1 15 16 ++ block_answers 225 2 16 17 gives
+    replicate 6 (14 * 2 ^ 32))
     ∷ (block_answers 160 4 15 15 ++ block_answers 192 0 16 15 gives replicate 4 (2 * 2 ^ 32))
     ∷ (block_answers 160 3 15 15 ++ block_answers 224 3 17 16 gives replicate 4 (3 * 2 ^ 32))
     ∷ (block_answers 160 3 16 17 ++ block_answers 192 1 16 15 gives replicate 4 (4 * 2 ^ 32))
@@ -258,8 +260,8 @@ call_cases =
     ∷ []
 
 pub call_cases_hold : AllHold call_cases
-unfolding call_cases rising lengths_answers all_same from_digits numbers_of answer judged key_check way_check block_check
-    output_check words_check words_from_bytes constant_count expanded_count constants_call expand_key_call block_checks
-    encrypt_block_call decrypt_block_call form_checks book_checks encrypt_book_by decrypt_book_by encrypt_book_call
-    decrypt_book_call
+unfolding call_cases rising lengths_answers all_same from_digits numbers_of answer judged key_check way_check
+    block_check output_check words_check words_from_bytes constant_count expanded_count constants_call expand_key_call
+    block_checks encrypt_block_call decrypt_block_call form_checks book_checks encrypt_book_by decrypt_book_by
+    encrypt_book_call decrypt_book_call
 call_cases_hold = computed call_cases refl

@@ -137,8 +137,8 @@ unfoldable pub sheets_hold : (List ℕ → List ℕ → List ℕ) → List (List
 sheets_hold f [] bs = true
 sheets_hold f (e ∷ es) bs = sheet_holds e (f e (take (16 * count e) bs)) && sheets_hold f es (drop (16 * count e) bs)
 
--- Check 11: every clear record of a book holds. f makes a body clear: `as_it_is` in a clear book, and
--- in a sealed one the decryption of the body.
+-- Check 11: every clear record of a book holds. f makes a body clear: `as_it_is` in a clear book,
+-- and in a sealed one the decryption of the body.
 unfoldable pub records_check : (List ℕ → List ℕ → List ℕ) → List ℕ → Check
 records_check f book = check 11 (sheets_hold f (contents book) (bodies book))
 
@@ -150,7 +150,8 @@ as_it_is e body = body
 -- encrypted one before it and then encrypted. (Document 01's terms: sealing and opening.)
 unfoldable pub cbc_encrypt : (List ℕ → List ℕ) → ℕ → List ℕ → List ℕ → List ℕ
 cbc_encrypt E zero previous bs = []
-cbc_encrypt E (suc n) previous bs = let c : List ℕ = E (xors previous (take 16 bs)) in c ++ cbc_encrypt E n c (drop 16 bs)
+cbc_encrypt E (suc n) previous bs =
+    let c : List ℕ = E (xors previous (take 16 bs)) in c ++ cbc_encrypt E n c (drop 16 bs)
 
 unfoldable pub cbc_decrypt : (List ℕ → List ℕ) → ℕ → List ℕ → List ℕ → List ℕ
 cbc_decrypt D zero previous bs = []
@@ -181,7 +182,8 @@ book_checks cs kind f book out = cs ++ (output_check (length book) out ∷ form_
 -- 11 looks at the records after the chain is undone.
 unfoldable pub encrypt_book_by : List Check → (List ℕ → List ℕ) → List ℕ → List ℕ → Outcome
 encrypt_book_by cs E book out =
-    judged (book_checks cs 1 as_it_is book out) (accepted (record_count (contents book)) (map_bodies 2 (encrypt_body E) book))
+    judged (book_checks cs 1 as_it_is book out)
+    (accepted (record_count (contents book)) (map_bodies 2 (encrypt_body E) book))
 
 unfoldable pub decrypt_book_by : List Check → (List ℕ → List ℕ) → List ℕ → List ℕ → Outcome
 decrypt_book_by cs D book out =

@@ -40,9 +40,9 @@ marked_cases =
 
 pub marked_cases_hold : AllHold marked_cases
 unfolding marked_cases all_same complement rotate from_digits to_digits digits_of numbers_of divide_by_z even_constant
-    odd_constant constants_from first_t constants double add_product product squares inverse ss0 ss1 ss2 ss3 s0 s1 bit_of
-    sum_of_bits affine f_rows g_rows m0 m1 matrix_entry row_times matrix_times substitute f0 f1 feistel rotate_branches
-    rounds bit_range double_swap_bits double_swap answer after judged way_check output_check words_check number pieces
-    entries_hold record_count form_checks each_body sheets_hold records_check map_bodies book_checks encrypt_book_by
-    encrypt_book_call
+    odd_constant constants_from first_t constants double add_product product squares inverse ss0 ss1 ss2 ss3 s0 s1
+    bit_of sum_of_bits affine f_rows g_rows m0 m1 matrix_entry row_times matrix_times substitute f0 f1 feistel
+    rotate_branches rounds bit_range double_swap_bits double_swap answer after judged way_check output_check
+    words_check number pieces entries_hold record_count form_checks each_body sheets_hold records_check map_bodies
+    book_checks encrypt_book_by encrypt_book_call
 marked_cases_hold = computed marked_cases refl

@@ -97,6 +97,6 @@ note_check_cases =
     ∷ []
 
 pub note_check_cases_hold : AllHold note_check_cases
-unfolding note_check_cases all_same answer judged way_check block_check output_check words_check note_check note_checks
-    crypt_note_by crypt_note_call
+unfolding note_check_cases all_same answer judged way_check block_check output_check words_check note_check
+    note_checks crypt_note_by crypt_note_call
 note_check_cases_hold = computed note_check_cases refl

@@ -44,8 +44,11 @@ pub record Judges (cs : List Check) (n : ℕ) (bs : List ℕ) (o : Outcome) : Ty
   pub accepts : (o ≡ accepted n bs) ↔ AllPass cs
   pub either : ((c : ℕ) × (o ≡ refused c)) ⊎ (o ≡ accepted n bs)
 
-refused_not_accepted : {c n : ℕ} {bs : List ℕ} → refused c ≡ accepted n bs → ⊥
-refused_not_accepted e = let z : ◌≡◌ {A = ℕ} 0 1 = cc in omega arith
+failure_head : {c d : ℕ} {cs : List Check} → FirstFailure (check d false ∷ cs) c → d ≡ c
+failure_head here = refl
+
+failure_tail : {c d : ℕ} {cs : List Check} → FirstFailure (check d true ∷ cs) c → FirstFailure cs c
+failure_tail (later f) = f
 
 refuses_first : (cs : List Check) (n : ℕ) (bs : List ℕ) (c : ℕ) → judged cs (accepted n bs) ≡ refused c
     → FirstFailure cs c
@@ -54,6 +57,9 @@ refuses_first [] n bs c e = let z : ◌≡◌ {A = ℕ} 0 1 = cc in absurd (omeg
 refuses_first (check d true ∷ cs) n bs c e = later (refuses_first cs n bs c e)
 refuses_first (check d false ∷ cs) n bs c e = let same : d ≡ c = cc in
     subst (FirstFailure (check d false ∷ cs)) same here
+
+refused_not_accepted : {c n : ℕ} {bs : List ℕ} → refused c ≡ accepted n bs → ⊥
+refused_not_accepted e = let z : ◌≡◌ {A = ℕ} 0 1 = cc in omega arith
 
 -- Of an accepted call: every check passed, and count and bytes are those that the call gives.
 pub record Passed (cs : List Check) (n m : ℕ) (bs xs : List ℕ) : Type 0 where
@@ -71,12 +77,28 @@ passed (check d true ∷ cs) n bs e =
 passed (check d false ∷ cs) n bs e = absurd (refused_not_accepted e)
 
 pub judges : (cs : List Check) (n : ℕ) (bs : List ℕ) → Judges cs n bs (judged cs (accepted n bs))
-judges cs n bs =
+unfolding judged
+judges [] n bs =
     record {
-      refuses = λ c. (refuses_first cs n bs c, λ f. judged_first f (accepted n bs));
-      accepts = (λ e. (passed cs n bs e).checks, λ p. judged_pass p (accepted n bs));
-      either = ⊎_map (λ f. (f.0, judged_first f.1 (accepted n bs))) (λ p. judged_pass p (accepted n bs))
-          (first_or_all cs);
+      refuses = λ c. (λ e. absurd (refused_not_accepted (sym e)), λ f. elim f [ ]);
+      accepts = (λ e. none, λ p. refl);
+      either = inr refl;
+    }
+judges (check d true ∷ cs) n bs =
+    let j : Judges cs n bs (judged cs (accepted n bs)) = judges cs n bs in
+    record {
+      refuses = λ c. (λ e. later ((j.refuses c).0 e), λ f. (j.refuses c).1 (failure_tail f));
+      accepts = (λ e. more (j.accepts.0 e), λ p. elim p [ more q ↦ j.accepts.1 q ]);
+      either = j.either;
+    }
+judges (check d false ∷ cs) n bs =
+    record {
+      refuses = λ c. (
+        λ e. let same : d ≡ c = cc in subst (FirstFailure (check d false ∷ cs)) same here,
+        λ f. ap refused (failure_head f),
+      );
+      accepts = (λ e. absurd (refused_not_accepted e), λ p. elim p [ ]);
+      either = inl (d, refl);
     }
 
 -- Lists of passed checks, in parts and joined.

@@ -96,8 +96,8 @@ page_cases =
 
 pub page_cases_hold : AllHold page_cases
 unfolding page_cases rising all_same from_digits to_digits answer after judged output_check number pieces replicates
-    entry_holds entries_hold plot_holds record_holds all_records_hold record_count form_checks sheets_hold records_check decimal
-    spaces right_aligned heading line lines page sheet_check page_checks page_call
+    entry_holds entries_hold plot_holds record_holds all_records_hold record_count form_checks sheets_hold
+    records_check decimal spaces right_aligned heading line lines page sheet_check page_checks page_call
 page_cases_hold = computed page_cases refl
 
 -- An index that no book has a sheet of.
@@ -134,7 +134,7 @@ page_check_cases =
     ∷ []
 
 pub page_check_cases_hold : AllHold page_check_cases
-unfolding page_check_cases rising all_same from_digits to_digits answer after judged output_check number pieces replicates
-    entry_holds entries_hold plot_holds record_holds all_records_hold record_count form_checks sheets_hold records_check
-    sheet_check page_checks page_call
+unfolding page_check_cases rising all_same from_digits to_digits answer after judged output_check number pieces
+    replicates entry_holds entries_hold plot_holds record_holds all_records_hold record_count form_checks sheets_hold
+    records_check sheet_check page_checks page_call
 page_check_cases_hold = computed page_check_cases refl

@@ -1,6 +1,5 @@
 // Clear books and counter blocks for the cases to start from. Places past a book's end are left
 // out, so that a book can be made too short.
-
 #![tactic(auto)]
 
 pub fn put(book: &mut [u8], at: usize, value: u8) {

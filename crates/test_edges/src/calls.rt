@@ -4,6 +4,7 @@ use planbook::{
     planbook_constants, planbook_crypt_note, planbook_decrypt_block, planbook_decrypt_book,
     planbook_encrypt_block, planbook_encrypt_book, planbook_expand_key, planbook_page,
 };
+use std::io;
 use test_script::commands;
 use test_script::outputs::{begin, end, fill, within};
 use test_script::script::Command;
@@ -34,6 +35,7 @@ fn call(
 }
 
 fn report(
+    rt: &impl Print,
     command: Command,
     script: &[u8],
     state: State,
@@ -42,8 +44,8 @@ fn report(
     counter: &[u8],
     input: &[u8],
     output: &mut [u8],
-) {
-    begin(command, script, state);
+) -> io::Result<()> {
+    begin(rt, command, script, state)?;
     fill(output);
     let answer = call(
         command.number,
@@ -56,7 +58,7 @@ fn report(
         input,
         output,
     );
-    end(command.number, answer, output);
+    end(rt, command.number, answer, output)
 }
 
 // Commands 1 to 7, 23 and 25.
@@ -99,6 +101,7 @@ pub fn make_ready(
 // A call with as many bytes of the key, the words, the counter block, the book and the output as
 // the state says.
 pub fn run_call(
+    rt: &impl Print,
     command: Command,
     script: &[u8],
     state: State,
@@ -107,9 +110,9 @@ pub fn run_call(
     counter: &[u8],
     book: &[u8],
     output: &mut [u8],
-) {
+) -> io::Result<()> {
     if !is_call(command.number) {
-        return;
+        return Ok(());
     }
     let k = within(state.key, key);
     let w = within(state.words, words);
@@ -117,6 +120,7 @@ pub fn run_call(
     let b = within(state.length, book);
     let n = within(state.size, output);
     report(
+        rt,
         command,
         script,
         state,
@@ -125,5 +129,5 @@ pub fn run_call(
         &counter[..c],
         &book[..b],
         &mut output[..n],
-    );
+    )
 }

@@ -42,10 +42,10 @@ ciphertexts =
 
 pub ciphertexts_hold : AllHold ciphertexts
 unfolding ciphertexts all_same complement rotate from_digits to_digits digits_of numbers_of four_at xors divide_by_z
-    even_constant odd_constant constants_from first_t constants double add_product product squares inverse ss0 ss1 ss2 ss3 s0
-    s1 bit_of sum_of_bits affine f_rows g_rows m0 m1 matrix_entry row_times matrix_times substitute f0 f1 feistel
-    rotate_branches rounds undo_rounds network inverse_network bit_range double_swap_bits double_swap step_keys
-    round_keys expand_short expand_long extend_key expand_key_words expand_key whiten round_count encrypt_words
-    decrypt_words encrypt_under decrypt_under answer after judged way_check block_check output_check
+    even_constant odd_constant constants_from first_t constants double add_product product squares inverse ss0 ss1 ss2
+    ss3 s0 s1 bit_of sum_of_bits affine f_rows g_rows m0 m1 matrix_entry row_times matrix_times substitute f0 f1
+    feistel rotate_branches rounds undo_rounds network inverse_network bit_range double_swap_bits double_swap
+    step_keys round_keys expand_short expand_long extend_key expand_key_words expand_key whiten round_count
+    encrypt_words decrypt_words encrypt_under decrypt_under answer after judged way_check block_check output_check
     words_check words_from_bytes block_checks encrypt_block_call decrypt_block_call
 ciphertexts_hold = computed ciphertexts refl

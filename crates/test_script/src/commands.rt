@@ -4,6 +4,7 @@ use crate::outputs::within;
 use crate::script::{Command, say_part, say_text};
 use crate::state::State;
 use check::same;
+use std::io;
 use test_books::{exchange, flip, put, write_book, write_counter};
 use test_console::{say, say_words};
 
@@ -20,53 +21,62 @@ fn edit(command: Command, book: &mut [u8]) {
     }
 }
 
-fn compare(kept: &[u8], output: &[u8], size: usize) {
+fn compare(rt: &impl Print, kept: &[u8], output: &[u8], size: usize) -> io::Result<()> {
     let k = within(size, kept);
     let n = within(size, output);
     if same(&kept[..k], &output[..n]) {
-        say(b": the same\n");
+        say(rt, b": the same\n")
     } else {
-        say(b": another\n");
+        say(rt, b": another\n")
     }
 }
 
 // A line that no file stdout has.
-fn say_unknown(script: &[u8], from: usize, end: usize) {
-    say(b"unknown command: ");
-    say_part(script, from, end);
-    say(b"\n");
+fn say_unknown(rt: &impl Print, script: &[u8], from: usize, end: usize) -> io::Result<()> {
+    say(rt, b"unknown command: ")?;
+    say_part(rt, script, from, end)?;
+    say(rt, b"\n")
 }
 
 // The empty name is before a remark or a line's end, and before nothing else.
-fn pass(script: &[u8], at: usize, end: usize) {
+fn pass(rt: &impl Print, script: &[u8], at: usize, end: usize) -> io::Result<()> {
     if at < script.len() {
         if script[at] != b'#' {
             if script[at] != b'\n' {
-                say_unknown(script, at, end);
+                say_unknown(rt, script, at, end)?;
             }
         }
     }
+    Ok(())
 }
 
 // Commands 19 to 21, which write, and names that are no command's.
-fn tell(command: Command, script: &[u8], state: State, book: &[u8], kept: &[u8], output: &[u8]) {
+fn tell(
+    rt: &impl Print,
+    command: Command,
+    script: &[u8],
+    state: State,
+    book: &[u8],
+    kept: &[u8],
+    output: &[u8],
+) -> io::Result<()> {
     let number = command.number;
     match number {
-        0 => pass(script, command.colon, command.end),
+        0 => pass(rt, script, command.colon, command.end),
         19 => {
-            say_text(script, command.colon, command.end);
-            say(b"\n");
+            say_text(rt, script, command.colon, command.end)?;
+            say(rt, b"\n")
         }
         20 => {
-            say_text(script, command.colon, command.end);
-            compare(kept, output, state.size);
+            say_text(rt, script, command.colon, command.end)?;
+            compare(rt, kept, output, state.size)
         }
         21 => {
             let b = within(state.length, book);
-            say_words(&book[..b]);
+            say_words(rt, &book[..b])
         }
-        30 => say_unknown(script, command.from, command.end),
-        _ => (),
+        30 => say_unknown(rt, script, command.from, command.end),
+        _ => Ok(()),
     }
 }
 
@@ -86,15 +96,16 @@ pub fn damage(command: Command, words: &mut [u8]) {
 
 // Any other command but the exported calls, at which it does nothing.
 pub fn run(
+    rt: &impl Print,
     command: Command,
     script: &[u8],
     state: State,
     book: &mut [u8],
     kept: &mut [u8],
     output: &mut [u8],
-) {
+) -> io::Result<()> {
     edit(command, book);
     exchange(command.number == 17, kept, output);
     exchange(command.number == 18, book, kept);
-    tell(command, script, state, book, kept, output);
+    tell(rt, command, script, state, book, kept, output)
 }

@@ -1,9 +1,10 @@
 // Outputs to pass: every byte holds one value before a call, so that a refused call that wrote
 // would show.
-ghost use Rattle.io.specs.Counts.{IsPrefixLen};
+ghost use Rattle.test_script.specs.Prefix.{IsPrefixLen};
 
 use crate::script::{Command, say_part, say_text};
 use crate::state::State;
+use std::io;
 use test_console::{say, say_answer, say_number};
 
 // What an output holds before each call.
@@ -29,39 +30,39 @@ fn is_untouched(output: &[u8]) -> bool {
 }
 
 // The way, which the calls for constants and for a page, 1 and 25, do not take.
-fn say_way(command: usize, way: usize) {
+fn say_way(rt: &impl Print, command: usize, way: usize) -> io::Result<()> {
     if command == 1 {
-        return;
+        return Ok(());
     }
     if command == 25 {
-        return;
+        return Ok(());
     }
-    say(b", way ");
-    say_number(way as u64);
+    say(rt, b", way ")?;
+    say_number(rt, way as u64)
 }
 
 // The start of a line: the call, the case and the way. At 'seal', command 7, it says nothing.
-pub fn begin(command: Command, script: &[u8], state: State) {
+pub fn begin(rt: &impl Print, command: Command, script: &[u8], state: State) -> io::Result<()> {
     if command.number == 7 {
-        return;
+        return Ok(());
     }
-    say_part(script, command.from, command.colon);
-    say(b", ");
-    say_text(script, state.case, state.case_end);
-    say_way(command.number, state.way);
-    say(b": ");
+    say_part(rt, script, command.from, command.colon)?;
+    say(rt, b", ")?;
+    say_text(rt, script, state.case, state.case_end)?;
+    say_way(rt, command.number, state.way)?;
+    say(rt, b": ")
 }
 
 // The rest of the line: the check, the count, and whether the output was written.
-pub fn end(command: usize, answer: u64, output: &[u8]) {
+pub fn end(rt: &impl Print, command: usize, answer: u64, output: &[u8]) -> io::Result<()> {
     if command == 7 {
-        return;
+        return Ok(());
     }
-    say_answer(answer);
+    say_answer(rt, answer)?;
     if is_untouched(output) {
-        say(b", output untouched\n");
+        say(rt, b", output untouched\n")
     } else {
-        say(b", output written\n");
+        say(rt, b", output written\n")
     }
 }
 

@@ -1,11 +1,14 @@
 // A script of commands. A command ends at a semicolon or at its line's end. It is a name of letters
 // and spaces, and then numbers or, after a colon, text. A line that begins with # means nothing to
 // the program.
-ghost use Rattle.std.specs.Prelude.{◌≤◌, length, ◌≡◌};
-ghost use Rattle.io.specs.Counts.{IsPrefixLen};
+ghost use Rattle.std.specs.Prelude.{◌≤◌, length, take, ◌≡◌, IfOk};
+ghost use Rattle.std.specs.Io.KnownBytes.{Consumes};
+ghost use Rattle.test_script.specs.Prefix.{IsPrefixLen};
 
 use crate::outputs::within;
-use libc::STDIN_FILENO;
+use std::io;
+use std::io::Read;
+use test_console::say;
 
 // Where a part of a script ends: a name at what is no letter and no space, a command at a semicolon
 // or at its line's end.
@@ -164,30 +167,50 @@ pub fn command_at(script: &[u8], at: usize) -> Command {
 }
 
 // Says a part of a script, if the script has it.
-pub fn say_part(script: &[u8], from: usize, to: usize) {
+pub fn say_part(rt: &impl Print, script: &[u8], from: usize, to: usize) -> io::Result<()> {
     if to <= script.len() {
         if from <= to {
-            test_console::say(&script[from..to]);
+            say(rt, &script[from..to])?;
         }
     }
+    Ok(())
 }
 
 // Says the text of a command from its colon to its end, without the colon and the space after it.
-pub fn say_text(script: &[u8], colon: usize, end: usize) {
+pub fn say_text(rt: &impl Print, script: &[u8], colon: usize, end: usize) -> io::Result<()> {
     if colon < end {
         if 2 <= end - colon {
-            say_part(script, colon + 2, end);
+            say_part(rt, script, colon + 2, end)?;
         }
     }
+    Ok(())
+}
+
+// Reads until the space is full, the input ends or a read fails, and answers how many bytes stand
+// at the start of the space.
+pub fn read_full<R: Read>(input: &mut R, space: &mut [u8]) -> usize
+    ensures within { IsPrefixLen result space.new }
+    ensures bytes { Consumes (R.remaining input.old) (R.remaining input.new)
+        (take result space.new) }
+{
+    let mut done = 0;
+    while done < space.len() {
+        match input.read(&mut space[done..]) {
+            Ok(0) => break,
+            Ok(n) => done += n,
+            Err(_) => break,
+        }
+    }
+    done
 }
 
 // Reads a script from standard input.
-pub fn read_script(space: &mut [u8]) -> usize
-    ensures { IsPrefixLen result space.new }
+pub fn read_script(rt: &(impl Input + Print), space: &mut [u8]) -> io::Result<usize>
+    ensures { IfOk result (λ n. IsPrefixLen n space.new) }
 {
-    let n = io::read_full(STDIN_FILENO, space);
+    let n = read_full(&mut rt.reader(), space);
     if n == space.len() {
-        test_console::say(b"script too long\n");
+        say(rt, b"script too long\n")?;
     }
-    n
+    Ok(n)
 }

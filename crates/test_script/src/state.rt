@@ -1,7 +1,8 @@
 // The numbers that commands set and calls go by.
-ghost use Rattle.std.specs.Prelude.{◌<◌};
+ghost use Rattle.std.specs.Prelude.{◌<◌, IfOk};
 
 use crate::script::Command;
+use std::io;
 use test_console::say;
 
 #[derive(Clone, Copy)]
@@ -78,15 +79,15 @@ impl State {
 }
 
 // How many commands may still be run: at the script's end none.
-pub fn fewer(left: u64, script: &[u8], at: usize) -> u64
+pub fn fewer(rt: &impl Print, left: u64, script: &[u8], at: usize) -> io::Result<u64>
     requires { 0 < left }
-    ensures { result < left }
+    ensures { IfOk result (λ fewer. fewer < left) }
 {
     if script.len() <= at {
-        return 0;
+        return Ok(0);
     }
     if left == 1 {
-        say(b"too many commands\n");
+        say(rt, b"too many commands\n")?;
     }
-    left - 1
+    Ok(left - 1)
 }

@@ -1,0 +1,11 @@
+use borrow.Author.Tests.{eq-eqb, ne_eqb}
+use Rattle.page_text.specs.Digits.{shown_digit}
+use Rattle.page_text.proofs.digit.Goals as goal
+
+pub returns-then-rest-eq0 : goal.returns-then-rest-eq0
+unfolding shown_digit
+returns-then-rest-eq0 c = rw (eq-eqb _ _ c.if-rest-eq0.true)
+
+pub returns : goal.returns
+unfolding shown_digit
+returns c = rw (ne_eqb _ _ c.if-rest-eq0.false)

@@ -1,0 +1,2 @@
+-- Lemmas of test_script.
+mod Reading

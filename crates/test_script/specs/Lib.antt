@@ -1,0 +1,2 @@
+-- What the contracts of test_script cite.
+pub mod Prefix
