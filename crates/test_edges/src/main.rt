@@ -52,14 +52,14 @@ fn run(
         run_command(
             rt, command, script, state, key, words, counter, book, kept, output,
         )?;
-        left = fewer(rt, left, script, state.at)?;
+        left = fewer(rt, left, script, state.at);
     }
     Ok(())
 }
 
 fn main(rt: HostRuntime) -> io::Result<()> {
     let mut space = [0u8; 131072];
-    let n = read_script(&rt, &mut space)?;
+    let n = read_script(&rt, &mut space);
     // The 32-byte key of the cipher's test vectors, whose shorter keys are its first bytes, and one
     // byte more.
     run(

@@ -1,5 +1,5 @@
 // The numbers that commands set and calls go by.
-ghost use Rattle.std.specs.Prelude.{◌<◌, IfOk};
+ghost use Rattle.std.specs.Prelude.{◌<◌};
 
 use crate::script::Command;
 use std::io;
@@ -78,16 +78,17 @@ impl State {
     }
 }
 
-// How many commands may still be run: at the script's end none.
-pub fn fewer(rt: &impl Print, left: u64, script: &[u8], at: usize) -> io::Result<u64>
+// How many commands may still be run: at the script's end none. It is so even where that there are
+// too many could not be said.
+pub fn fewer(rt: &impl Print, left: u64, script: &[u8], at: usize) -> u64
     requires { 0 < left }
-    ensures { IfOk result (λ fewer. fewer < left) }
+    ensures { result < left }
 {
     if script.len() <= at {
-        return Ok(0);
+        return 0;
     }
     if left == 1 {
-        say(rt, b"too many commands\n")?;
+        let _ = say(rt, b"too many commands\n");
     }
-    Ok(left - 1)
+    left - 1
 }

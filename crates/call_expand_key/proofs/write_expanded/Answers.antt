@@ -1,4 +1,5 @@
 -- `call_expand_key::write_expanded` meets its contract: the words are those of the key.
+-- There are as many as go with the key's length.
 use mathlib.Core.Path.{◌≡◌, ◌∙◌}
 use native.Mathlib.Nat.{le_trans}
 use lib.Dec.{lit≤}

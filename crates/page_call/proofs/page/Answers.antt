@@ -1,6 +1,7 @@
 -- `page_call::page` meets its contract: the checks of the book, that of the sheet, and what is left
 -- for the sheet that there is.
--- the checks of the book, once passed
+-- Where the book has passed, `answered` says so in each answer, with what its checks count: the
+-- records of all its sheets.
 use mathlib.Core.Path.{◌≡◌, sym, ◌∙◌}
 use native.Mathlib.Omega.{arith}
 use Rattle.call_answer.specs.declared.Answer.TheVariants.{Accepted}
