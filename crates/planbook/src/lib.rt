@@ -1,5 +1,5 @@
-// The border to C: each exported call turns the answer of the call below into the 64-bit number,
-// and nothing else. No call has a precondition.
+// The eight calls, as C gets them from planbook_c: each turns the answer of the call below into the
+// 64-bit number, and nothing else. No call has a precondition.
 
 #![tactic(auto)]
 

@@ -1,5 +1,5 @@
-// The exported calls, each reported in one line: the call, the case, the way, the check, the count,
-// and whether the output was written.
+// The calls of planbook, each reported in one line: the call, the case, the way, the check, the
+// count, and whether the output was written.
 use planbook::{
     planbook_constants, planbook_crypt_note, planbook_decrypt_block, planbook_decrypt_book,
     planbook_encrypt_block, planbook_encrypt_book, planbook_expand_key, planbook_page,

@@ -1,4 +1,4 @@
-// The edges of the exported calls by running: what each check refuses and what it lets through,
+// The edges of the calls of planbook by running: what each check refuses and what it lets through,
 // books in which two checks fail at once, and books that pass. The cases are in the file stdin, a
 // script of commands, which says what each command does.
 //

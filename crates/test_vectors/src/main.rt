@@ -1,6 +1,6 @@
-// Runs the vectors of the CLEFIA specification 1.0 (2010) through the exported calls: the constants
-// of each key length (its tables 2.8 to 2.12), and by each way the expanded key (2.5.1), the
-// ciphertext and the decrypted block (2.5).
+// Runs the vectors of the CLEFIA specification 1.0 (2010) through the calls of planbook: the
+// constants of each key length (its tables 2.8 to 2.12), and by each way the expanded key (2.5.1),
+// the ciphertext and the decrypted block (2.5).
 //
 // The file stdout is typed from that paper. Three of the words it prints here break its own rules
 // and are corrected: constant 74 of the 24-byte key, printed 9dcfabab3, is 9dcfaba3; constant 56 of
