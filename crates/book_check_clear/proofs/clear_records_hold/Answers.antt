@@ -6,6 +6,13 @@ use Rattle.book_sheets.specs.Cursors.{entry_at, body_at, from_next, left_next, a
 use Rattle.book_sheets.specs.Cursors.{body_part, body_length}
 use Rattle.book_sheets.specs.Tested.{tested_first, tested_broken, tested_next, tested_end}
 use Rattle.book_check_clear.proofs.clear_records_hold.Goals as goal
+use Rattle.book_check_clear.proofs.clear_records_hold.Goals.{After-clear_sheet_holds}
+
+-- what is known of the sheet at the cursor
+tested : (c : After-clear_sheet_holds) → c.clear_sheet_holds.result
+    ≡ sheet_holds (entry_at c.args.book.now c.loop-cursor.cursor) (body_at c.args.book.now c.loop-cursor.cursor)
+tested c =
+    rw (entry_part c.next-following.ensures, body_part c.next-following.ensures) at c.clear_sheet_holds.ensures
 
 pub loop-cursor-init : goal.loop-cursor-init
 loop-cursor-init c = tested_first _ c.first-cursor.ensures
@@ -41,11 +48,9 @@ clear_sheet_holds-requires c = record {
 
 pub returns-then-not-clear_sheet_holds : goal.returns-then-not-clear_sheet_holds
 returns-then-not-clear_sheet_holds c =
-    let tested : c.clear_sheet_holds.result ≡ sheet_holds (entry_at c.args.book.now c.loop-cursor.cursor)
-    (body_at c.args.book.now c.loop-cursor.cursor) =
-    rw (entry_part c.next-following.ensures, body_part c.next-following.ensures) at c.clear_sheet_holds.ensures in
     tested_broken _ c.loop-cursor.invariant c.loop-cursor-test.true
-    (sym tested ∙ c.if-not-clear_sheet_holds.true)
+    (sym (tested (goal.at.returns-then-not-clear_sheet_holds c).After-clear_sheet_holds)
+    ∙ c.if-not-clear_sheet_holds.true)
 
 pub loop-cursor-smaller : goal.loop-cursor-smaller
 loop-cursor-smaller c =
@@ -53,11 +58,9 @@ loop-cursor-smaller c =
 
 pub loop-cursor-preserved : goal.loop-cursor-preserved
 loop-cursor-preserved c =
-    let tested : c.clear_sheet_holds.result ≡ sheet_holds (entry_at c.args.book.now c.loop-cursor.cursor)
-    (body_at c.args.book.now c.loop-cursor.cursor) =
-    rw (entry_part c.next-following.ensures, body_part c.next-following.ensures) at c.clear_sheet_holds.ensures in
     tested_next _ c.loop-cursor.invariant c.next-following.ensures c.loop-cursor-test.true
-    (sym tested ∙ c.if-not-clear_sheet_holds.false)
+    (sym (tested (goal.at.loop-cursor-preserved c).After-clear_sheet_holds)
+    ∙ c.if-not-clear_sheet_holds.false)
 
 pub returns : goal.returns
 returns c = tested_end _ c.loop-cursor.invariant (search rules)

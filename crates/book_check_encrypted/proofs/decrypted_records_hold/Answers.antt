@@ -9,6 +9,14 @@ use Rattle.book_sheets.specs.Cursors.{entry_at, body_at, from_next, left_next, a
 use Rattle.book_sheets.specs.Cursors.{body_part, body_length}
 use Rattle.book_sheets.specs.Tested.{tested_first, tested_broken, tested_next, tested_end}
 use Rattle.book_check_encrypted.proofs.decrypted_records_hold.Goals as goal
+use Rattle.book_check_encrypted.proofs.decrypted_records_hold.Goals.{After-decrypted_sheet_holds}
+
+-- what is known of the sheet at the cursor
+tested : (c : After-decrypted_sheet_holds) → let e : List ℕ = entry_at c.args.book.now c.loop-cursor.cursor in
+    c.decrypted_sheet_holds.result ≡ sheet_holds e (decrypt_body (decrypt_under c.args.expanded.now) e
+    (body_at c.args.book.now c.loop-cursor.cursor))
+tested c =
+    rw (entry_part c.next-following.ensures, body_part c.next-following.ensures) at c.decrypted_sheet_holds.ensures
 
 pub loop-cursor-init : goal.loop-cursor-init
 loop-cursor-init c = tested_first _ c.first-cursor.ensures
@@ -47,12 +55,9 @@ decrypted_sheet_holds-requires c = record {
 
 pub returns-then-not-decrypted_sheet_holds : goal.returns-then-not-decrypted_sheet_holds
 returns-then-not-decrypted_sheet_holds c =
-    let tested : let e : List ℕ = entry_at c.args.book.now c.loop-cursor.cursor in
-    c.decrypted_sheet_holds.result ≡ sheet_holds e (decrypt_body (decrypt_under c.args.expanded.now) e
-    (body_at c.args.book.now c.loop-cursor.cursor)) =
-    rw (entry_part c.next-following.ensures, body_part c.next-following.ensures) at c.decrypted_sheet_holds.ensures in
     tested_broken _ c.loop-cursor.invariant c.loop-cursor-test.true
-    (sym tested ∙ c.if-not-decrypted_sheet_holds.true)
+    (sym (tested (goal.at.returns-then-not-decrypted_sheet_holds c).After-decrypted_sheet_holds)
+    ∙ c.if-not-decrypted_sheet_holds.true)
 
 pub loop-cursor-smaller : goal.loop-cursor-smaller
 loop-cursor-smaller c =
@@ -60,12 +65,9 @@ loop-cursor-smaller c =
 
 pub loop-cursor-preserved : goal.loop-cursor-preserved
 loop-cursor-preserved c =
-    let tested : let e : List ℕ = entry_at c.args.book.now c.loop-cursor.cursor in
-    c.decrypted_sheet_holds.result ≡ sheet_holds e (decrypt_body (decrypt_under c.args.expanded.now) e
-    (body_at c.args.book.now c.loop-cursor.cursor)) =
-    rw (entry_part c.next-following.ensures, body_part c.next-following.ensures) at c.decrypted_sheet_holds.ensures in
     tested_next _ c.loop-cursor.invariant c.next-following.ensures c.loop-cursor-test.true
-    (sym tested ∙ c.if-not-decrypted_sheet_holds.false)
+    (sym (tested (goal.at.loop-cursor-preserved c).After-decrypted_sheet_holds)
+    ∙ c.if-not-decrypted_sheet_holds.false)
 
 pub returns : goal.returns
 returns c = tested_end _ c.loop-cursor.invariant (search rules)

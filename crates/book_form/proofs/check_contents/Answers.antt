@@ -9,6 +9,13 @@ use Rattle.book_entries.specs.EntryLaws.{Held, held}
 use Rattle.planbook_laws.specs.Parts.{part, part_length}
 use Rattle.book_form.specs.Walks.{walk_start, walk_step, walk_broken, walk_wrong, walk_right}
 use Rattle.book_form.proofs.check_contents.Goals as goal
+use Rattle.book_form.proofs.check_contents.Goals.{In-Good}
+
+-- the entry at `at`, which holds
+good : (c : In-Good)
+    → Good c.in-Good.sheet ≡ entry_of c.loop-left.previous (take 24 (drop c.loop-left.at c.args.book.now))
+good c = sym c.in-Good.is ∙ c.read_entry.ensures
+    ∙ ap (entry_of c.loop-left.previous) (part 24 c.loop-left.at c.args.book.now refl)
 
 pub loop-left-init : goal.loop-left-init
 loop-left-init c = (c.requires.0, walk_start _ _ c.requires.1 c.requires.0)
@@ -26,23 +33,16 @@ returns-in_default c =
 
 pub overflow_add-records : goal.overflow_add-records
 overflow_add-records c =
-    let good : Good c.in-Good.sheet ≡ entry_of c.loop-left.previous (take 24 (drop c.loop-left.at c.args.book.now)) =
-    sym c.in-Good.is ∙ c.read_entry.ensures
-    ∙ ap (entry_of c.loop-left.previous) (part 24 c.loop-left.at c.args.book.now refl) in
     let k : Held _ (take 24 (drop c.loop-left.at c.args.book.now))
-    c.in-Good.sheet = held _ _ _ good in
+    c.in-Good.sheet = held _ _ _ (good (goal.at.overflow_add-records c).In-Good) in
     let few : c.in-Good.sheet.count ≤ 1024 = rw k.sheet k.few in
     search rules
 
 pub loop-left-preserved : goal.loop-left-preserved
-loop-left-preserved c =
-    let good : Good c.in-Good.sheet ≡ entry_of c.loop-left.previous (take 24 (drop c.loop-left.at c.args.book.now)) =
-    sym c.in-Good.is ∙ c.read_entry.ensures
-    ∙ ap (entry_of c.loop-left.previous) (part 24 c.loop-left.at c.args.book.now refl) in (
-      c.loop-left.invariant.0,
-      walk_step c.loop-left.invariant.1 _ (search rules)
-          good,
-    )
+loop-left-preserved c = (
+  c.loop-left.invariant.0,
+  walk_step c.loop-left.invariant.1 _ (search rules) (good (goal.at.loop-left-preserved c).In-Good),
+)
 
 pub returns-then-book-at : goal.returns-then-book-at
 returns-then-book-at c =
