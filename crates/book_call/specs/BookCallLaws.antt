@@ -1,8 +1,6 @@
 -- Laws of a whole call: its answer and its output, by each way out.
-use Rattle.std.specs.Prelude.{ℕ, ◌+◌, ◌*◌, ◌≤◌, ◌≡◌, refl, Bool, not, List, [], ◌++◌, length, take, set}
+use Rattle.std.specs.Prelude.{ℕ, ◌+◌, ◌*◌, ◌≤◌, ◌≡◌, refl, Bool, not, List, [], ◌++◌, length, take, set, Result, Ok, Err}
 use Rattle.std.proofs.Common.{sym, ap, ◌∙◌, arith, eq-eqb, ne_eqb}
-use Rattle.call_answer.specs.declared.Answer.{Answer}
-use Rattle.call_answer.specs.declared.Answer.TheVariants.{Accepted, Refused}
 use Rattle.call_answer.specs.Answer.{Answered}
 use Rattle.planbook_spec.specs.Outcome.{Outcome, accepted, judged}
 use Rattle.planbook_spec.specs.OutcomeLaws.{judged_pass, pass_left}
@@ -29,7 +27,7 @@ module _ (decrypting : Bool) (w book : List ℕ) where
   -- book.
   module _ (out : List ℕ) where
     pub wrong_output : (length out ≡ length book → ⊥) → Answered (crypted_book decrypting w book out) out
-        (Refused 4) out
+        (Err 4) out
     unfolding book_checks output_check judged
     wrong_output h = answered_refused out (rw (ne_eqb _ _ h))
 
@@ -39,12 +37,12 @@ module _ (decrypting : Bool) (w book : List ℕ) where
       unfolding book_checks output_check judged
       after_output o = rw (eq-eqb _ _ same)
 
-      pub wrong_book : {r : Answer} {c : ℕ} → r ≡ book_answer (kind_of decrypting) (clear_body decrypting w) book
-          → r ≡ Refused c → Answered (crypted_book decrypting w book out) out r out
+      pub wrong_book : {r : Result ℕ ℕ} {c : ℕ} → r ≡ book_answer (kind_of decrypting) (clear_body decrypting w) book
+          → r ≡ Err c → Answered (crypted_book decrypting w book out) out r out
       wrong_book e h = rw h (answered_refused out
           (after_output _ ∙ stopped (form_and_records _ _ book) (record_count (contents book)) _ (sym h ∙ e)))
 
-      module _ {records : ℕ} (e : Accepted records ≡ book_answer (kind_of decrypting)
+      module _ {records : ℕ} (e : Ok records ≡ book_answer (kind_of decrypting)
           (clear_body decrypting w) book) where
         passed_book : GroupPassed (form_and_records (kind_of decrypting) (clear_body decrypting w) book)
             (record_count (contents book)) records
@@ -55,7 +53,7 @@ module _ (decrypting : Bool) (w book : List ℕ) where
         checked_formed = formed (kind_of decrypting) book
             (pass_left (form_checks (kind_of decrypting) book) _ passed_book.checks)
 
-        pub right_book : Answered (crypted_book decrypting w book out) out (Accepted records)
+        pub right_book : Answered (crypted_book decrypting w book out) out (Ok records)
             (map_bodies (kind_of (not decrypting)) (crypted_body decrypting w) book)
         right_book =
             answered_accepted out _

@@ -7,8 +7,7 @@
 ghost use Rattle.std.specs.Prelude.{◌≡◌, not, [], length};
 ghost use Rattle.clefia_spec.specs.Block.{encrypt_under, decrypt_under};
 ghost use Rattle.planbook_spec.specs.Book.{map_bodies, encrypt_book_by, decrypt_book_by};
-ghost use Rattle.call_answer.specs.Answer.{Answered};
-ghost use Rattle.cipher_ffunction.specs.Tables.{CipherReady};
+ghost use Rattle.call_answer.specs.Answer.{numbered, Answered};
 ghost use Rattle.planbook_laws.specs.BookLaws.{Formed};
 ghost use Rattle.book_chain.specs.Crypt.{crypted_body};
 ghost use Rattle.book_form.specs.BookAnswer.{book_answer};
@@ -16,7 +15,9 @@ ghost use Rattle.book_call.specs.Directions.{kind_of, clear_body, crypted_book};
 
 use book_check_clear::check_clear_book;
 use book_check_encrypted::check_encrypted_book;
-use call_answer::Answer;
+use call_answer::Check;
+use cipher_block::Cipher;
+use cipher_ffunction::FFunctions;
 
 // The first byte of the book that a call is given: 2 where it is encrypted, and so to be decrypted,
 // else 1.
@@ -31,89 +32,66 @@ fn kind(decrypting: bool) -> u8
 }
 
 // The other book.
-fn write_book(
-    decrypting: bool,
-    word_tables: &[[u32; 256]],
-    byte_tables: &[[u8; 256]],
-    expanded: &[u32],
-    book: &[u8],
-    out: &mut [u8],
-)
-    requires cipher_ready { CipherReady word_tables.now byte_tables.now expanded.now }
-    requires formed { Formed book.now × (length out.old ≡ length book.now) }
+fn write_book<F: FFunctions>(decrypting: bool, cipher: Cipher<'_, F>, book: &[u8], out: &mut [u8])
+    requires { Formed book.now × (length out.old ≡ length book.now) }
     ensures { out.new ≡ map_bodies (kind_of (not decrypting))
-        (crypted_body decrypting expanded.now) book.now }
+        (crypted_body decrypting cipher.entry.expanded.now) book.now }
 {
     book_crypt_bodies::front::copy_front(kind(!decrypting), book, out);
-    book_crypt_bodies::crypt_bodies(decrypting, word_tables, byte_tables, expanded, book, out);
+    book_crypt_bodies::crypt_bodies(decrypting, cipher, book, out);
 }
 
 // Checks 5 to 11 of the book that a call is given. The count is that of the records.
-fn check_book(
+fn check_book<F: FFunctions>(
     decrypting: bool,
-    word_tables: &[[u32; 256]],
-    byte_tables: &[[u8; 256]],
-    expanded: &[u32],
+    cipher: Cipher<'_, F>,
     book: &[u8],
-) -> Answer
-    requires { CipherReady word_tables.now byte_tables.now expanded.now }
-    ensures { result ≡ book_answer (kind_of decrypting) (clear_body decrypting expanded.now)
+) -> Result<u64, Check>
+    ensures { numbered result ≡ book_answer (kind_of decrypting) (clear_body decrypting cipher.entry.expanded.now)
         book.now }
 {
     if decrypting {
-        return check_encrypted_book(word_tables, byte_tables, expanded, book);
+        return check_encrypted_book(cipher, book);
     }
     check_clear_book(book)
 }
 
 // Checks 4 to 11, and then the other book. Nothing is written before the last check.
-fn crypt_book(
+fn crypt_book<F: FFunctions>(
     decrypting: bool,
-    word_tables: &[[u32; 256]],
-    byte_tables: &[[u8; 256]],
-    expanded: &[u32],
+    cipher: Cipher<'_, F>,
     book: &[u8],
     out: &mut [u8],
-) -> Answer
-    requires { CipherReady word_tables.now byte_tables.now expanded.now }
-    ensures { Answered (crypted_book decrypting expanded.now book.now out.old)
-        out.old result out.new }
+) -> Result<u64, Check>
+    ensures { Answered (crypted_book decrypting cipher.entry.expanded.now book.now out.old)
+        out.old (numbered result) out.new }
 {
     if out.len() != book.len() {
-        return Answer::Refused(4);
+        return Err(Check::OutputLength);
     }
-    let checked = check_book(decrypting, word_tables, byte_tables, expanded, book);
-    let Answer::Accepted(count) = checked else {
-        return checked;
-    };
-    write_book(decrypting, word_tables, byte_tables, expanded, book, out);
-    Answer::Accepted(count)
+    let count = check_book(decrypting, cipher, book)?;
+    write_book(decrypting, cipher, book, out);
+    Ok(count)
 }
 
-pub fn encrypt_book(
-    word_tables: &[[u32; 256]],
-    byte_tables: &[[u8; 256]],
-    expanded: &[u32],
+pub fn encrypt_book<F: FFunctions>(
+    cipher: Cipher<'_, F>,
     book: &[u8],
     out: &mut [u8],
-) -> Answer
-    requires { CipherReady word_tables.now byte_tables.now expanded.now }
-    ensures { Answered (encrypt_book_by [] (encrypt_under expanded.now) book.now
-        out.old) out.old result out.new }
+) -> Result<u64, Check>
+    ensures { Answered (encrypt_book_by [] (encrypt_under cipher.entry.expanded.now) book.now
+        out.old) out.old (numbered result) out.new }
 {
-    crypt_book(false, word_tables, byte_tables, expanded, book, out)
+    crypt_book(false, cipher, book, out)
 }
 
-pub fn decrypt_book(
-    word_tables: &[[u32; 256]],
-    byte_tables: &[[u8; 256]],
-    expanded: &[u32],
+pub fn decrypt_book<F: FFunctions>(
+    cipher: Cipher<'_, F>,
     book: &[u8],
     out: &mut [u8],
-) -> Answer
-    requires { CipherReady word_tables.now byte_tables.now expanded.now }
-    ensures { Answered (decrypt_book_by [] (decrypt_under expanded.now) book.now
-        out.old) out.old result out.new }
+) -> Result<u64, Check>
+    ensures { Answered (decrypt_book_by [] (decrypt_under cipher.entry.expanded.now) book.now
+        out.old) out.old (numbered result) out.new }
 {
-    crypt_book(true, word_tables, byte_tables, expanded, book, out)
+    crypt_book(true, cipher, book, out)
 }

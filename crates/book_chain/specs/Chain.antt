@@ -3,7 +3,11 @@ use Rattle.std.specs.Prelude.{ℕ, List}
 use Rattle.clefia_spec.specs.Words.{xors}
 use Rattle.clefia_spec.specs.Block.{encrypt_words, decrypt_words}
 use Rattle.book_chain.specs.declared.Chain.{Chain}
-use Rattle.book_chain.specs.declared.Step.{Step}
+
+-- The block that a step answers, and the chain that it leaves.
+pub record Step : Type 0 where
+  pub block : List ℕ
+  pub next : Chain
 
 -- The block is added to the one before it, and then encrypted.
 abbrev pub encrypt_step : List ℕ → Chain → List ℕ → Step

@@ -4,8 +4,7 @@ use Rattle.clefia_spec.specs.Words.{choose}
 use Rattle.clefia_spec.specs.Block.{encrypt_under, decrypt_under}
 use Rattle.planbook_spec.specs.Book.{encrypt_body, decrypt_body}
 use Rattle.book_chain.specs.declared.Chain.{Chain}
-use Rattle.book_chain.specs.declared.Step.{Step}
-use Rattle.book_chain.specs.Chain.{encrypt_step, decrypt_step}
+use Rattle.book_chain.specs.Chain.{Step, encrypt_step, decrypt_step}
 
 abbrev pub crypt_step : Bool → List ℕ → Chain → List ℕ → Step
 crypt_step decrypting w = choose decrypting (decrypt_step w) (encrypt_step w)

@@ -1,13 +1,16 @@
-// The chain of a sheet: CBC (NIST SP 800-38A). It is passed by value; each step hands back its
-// block together with the chain that follows.
+// The chain of a sheet: CBC (NIST SP 800-38A). Each step answers its block, and leaves the chain as
+// the next one wants it.
 
 #![tactic(auto)]
 
-ghost use Rattle.std.specs.Prelude.{◌≡◌, length, drop};
+ghost use Rattle.std.specs.Prelude.{◌≡◌, drop};
 ghost use Rattle.clefia_spec.specs.Words.{words_of};
-ghost use Rattle.cipher_ffunction.specs.Tables.{CipherReady};
 ghost use Rattle.book_chain.specs.Chain.{encrypt_step, decrypt_step};
 ghost use Rattle.book_chain.specs.Crypt.{crypt_step};
+
+use book_sheets::SheetBytes;
+use cipher_block::Cipher;
+use cipher_ffunction::FFunctions;
 
 #[derive(Drop)]
 pub struct Chain {
@@ -15,85 +18,50 @@ pub struct Chain {
     pub previous: [u32; 4],
 }
 
-#[derive(Drop)]
-pub struct Step {
-    pub block: [u32; 4],
-    pub next: Chain,
-}
-
 impl Chain {
     // A sheet's chain begins at the iv of its entry.
-    pub fn new(entry: &[u8]) -> Chain
-        requires { length entry.now ≡ 24 }
-        ensures { result.previous ≡ words_of 4 (drop 8 entry.now) }
+    pub fn new(sheet: SheetBytes<'_>) -> Chain
+        ensures { result.previous ≡ words_of 4 (drop 8 sheet.entry.entry.now) }
     {
         Chain {
-            previous: cipher_bytes::load(entry, 8),
+            previous: cipher_bytes::load(sheet.entry, 8),
         }
     }
 
-    pub fn encrypt(
-        self,
-        word_tables: &[[u32; 256]],
-        byte_tables: &[[u8; 256]],
-        expanded: &[u32],
-        block: [u32; 4],
-    ) -> Step
-        requires { CipherReady word_tables.now byte_tables.now expanded.now }
-        ensures { result ≡ encrypt_step expanded.now self block }
+    pub fn encrypt<F: FFunctions>(&mut self, cipher: Cipher<'_, F>, block: [u32; 4]) -> [u32; 4]
+        ensures block { result ≡ (encrypt_step cipher.entry.expanded.now self.old block).block }
+        ensures next { self.new ≡ (encrypt_step cipher.entry.expanded.now self.old block).next }
     {
         let previous = self.previous;
-        let encrypted = cipher_block::encrypt_words(
-            word_tables,
-            byte_tables,
-            expanded,
-            cipher_bytes::xors4(previous, block),
-        );
-        Step {
-            block: encrypted,
-            next: Chain {
-                previous: encrypted,
-            },
-        }
+        let encrypted = cipher.encrypt_words(cipher_bytes::xors4(previous, block));
+        self.previous = encrypted;
+        encrypted
     }
 
-    pub fn decrypt(
-        self,
-        word_tables: &[[u32; 256]],
-        byte_tables: &[[u8; 256]],
-        expanded: &[u32],
-        block: [u32; 4],
-    ) -> Step
-        requires { CipherReady word_tables.now byte_tables.now expanded.now }
-        ensures { result ≡ decrypt_step expanded.now self block }
+    pub fn decrypt<F: FFunctions>(&mut self, cipher: Cipher<'_, F>, block: [u32; 4]) -> [u32; 4]
+        ensures block { result ≡ (decrypt_step cipher.entry.expanded.now self.old block).block }
+        ensures next { self.new ≡ (decrypt_step cipher.entry.expanded.now self.old block).next }
     {
         let previous = self.previous;
-        let clear = cipher_bytes::xors4(
-            previous,
-            cipher_block::decrypt_words(word_tables, byte_tables, expanded, block),
-        );
-        Step {
-            block: clear,
-            next: Chain { previous: block },
-        }
+        let clear = cipher_bytes::xors4(previous, cipher.decrypt_words(block));
+        self.previous = block;
+        clear
     }
 
     // In either direction.
-    pub fn crypt(
-        self,
+    pub fn crypt<F: FFunctions>(
+        &mut self,
         decrypting: bool,
-        word_tables: &[[u32; 256]],
-        byte_tables: &[[u8; 256]],
-        expanded: &[u32],
+        cipher: Cipher<'_, F>,
         block: [u32; 4],
-    ) -> Step
-        requires { CipherReady word_tables.now byte_tables.now expanded.now }
-        ensures { result ≡ crypt_step decrypting expanded.now self block }
+    ) -> [u32; 4]
+        ensures block { result ≡ (crypt_step decrypting cipher.entry.expanded.now self.old block).block }
+        ensures next { self.new ≡ (crypt_step decrypting cipher.entry.expanded.now self.old block).next }
     {
         if decrypting {
-            self.decrypt(word_tables, byte_tables, expanded, block)
+            self.decrypt(cipher, block)
         } else {
-            self.encrypt(word_tables, byte_tables, expanded, block)
+            self.encrypt(cipher, block)
         }
     }
 }

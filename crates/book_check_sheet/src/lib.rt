@@ -1,6 +1,6 @@
 // Check 11 of one encrypted sheet: its records decrypted, four at a time by word tables, and only
 // looked at. Each is decrypted by itself and added to the encrypted one before it, which is read
-// from the body again. `entry` is the sheet's entry.
+// from the body again.
 
 #![tactic(auto)]
 
@@ -8,15 +8,16 @@ ghost use Rattle.std.specs.Prelude.{◌≡◌, List, ℕ, ◌+◌, ◌-◌, ◌*
 ghost use Rattle.clefia_spec.specs.Words.{bytes_of, words_of, xors};
 ghost use Rattle.clefia_spec.specs.Block.{decrypt_under};
 ghost use Rattle.planbook_spec.specs.Book.{count, record_holds, sheet_holds, decrypt_body};
-ghost use Rattle.cipher_ffunction.specs.Tables.{CipherReady};
 ghost use Rattle.book_entries.specs.Entry.{sheet_of};
 ghost use Rattle.book_chain.specs.ChainLaws.{Decrypted};
 
 use book_chain::Chain;
 use book_entries::entry::Sheet;
 use book_entries::{entry, record};
+use book_sheets::SheetBytes;
+use cipher_block::Cipher;
 use cipher_block_four_way::decrypt_four;
-use cipher_ffunction::has_word_tables;
+use cipher_ffunction::FFunctions;
 
 // Whether a decrypted block t, added to the encrypted one before it, is a record that holds.
 fn clear_holds(sheet: Sheet, previous: [u32; 4], t: [u32; 4]) -> bool
@@ -27,35 +28,28 @@ fn clear_holds(sheet: Sheet, previous: [u32; 4], t: [u32; 4]) -> bool
 
 // How often four of n records go at once: by word tables as long as there are four; other tables
 // leave nothing to wait for, and there never.
-fn fours(word_tables: &[[u32; 256]], n: usize) -> usize
+fn fours<F: FFunctions>(n: usize) -> usize
     ensures { 4 * result ≤ n }
 {
-    if has_word_tables(word_tables) {
-        n / 4
-    } else {
-        0
-    }
+    if F::waits() { n / 4 } else { 0 }
 }
 
 // Whether the records so far hold and the four at `at` too; `previous` went before them.
-fn four_hold(
+fn four_hold<F: FFunctions>(
     held: bool,
-    word_tables: &[[u32; 256]],
-    byte_tables: &[[u8; 256]],
-    expanded: &[u32],
+    cipher: Cipher<'_, F>,
     sheet: Sheet,
     body: &[u8],
     at: usize,
     previous: [u32; 4],
 ) -> bool
-    requires cipher_ready { CipherReady word_tables.now byte_tables.now expanded.now }
-    requires at_in_bounds { at + 64 ≤ length body.now }
+    requires { at + 64 ≤ length body.now }
     ensures { (e : List ℕ) (left : ℕ) → sheet ≡ sheet_of e → length body.now ≡ 16 * count e
-        → Decrypted held expanded.now e body.now at left previous → 4 ≤ left
-        → Decrypted result expanded.now e body.now (at + 64) (left - 4)
+        → Decrypted held cipher.entry.expanded.now e body.now at left previous → 4 ≤ left
+        → Decrypted result cipher.entry.expanded.now e body.now (at + 64) (left - 4)
         (words_of 4 (drop (at + 48) body.now)) }
 {
-    let t = decrypt_four(word_tables, byte_tables, expanded, body, at);
+    let t = decrypt_four(cipher, body, at);
     let a = t.a;
     let b = t.b;
     let c = t.c;
@@ -69,46 +63,27 @@ fn four_hold(
     held & p & q & r & s
 }
 
-// Whether the records so far hold and the last `n` too, from `from` on, one by one; `before` went
-// before them.
-fn rest_holds(
+// Whether the records so far hold and the others too, from record `from` on, one by one; `before`
+// went before them.
+fn rest_holds<F: FFunctions>(
     held: bool,
-    word_tables: &[[u32; 256]],
-    byte_tables: &[[u8; 256]],
-    expanded: &[u32],
-    entry: &[u8],
-    body: &[u8],
+    cipher: Cipher<'_, F>,
+    sheet: SheetBytes<'_>,
     from: usize,
-    n: usize,
     before: [u32; 4],
 ) -> bool
-    requires cipher_ready { CipherReady word_tables.now byte_tables.now expanded.now }
-    requires len { length entry.now ≡ 24 }
-    requires body_len { length body.now ≡ 16 * count entry.now }
-    requires decrypted { Decrypted held expanded.now entry.now body.now from n before }
-    ensures { result ≡ sheet_holds entry.now
-        (decrypt_body (decrypt_under expanded.now) entry.now body.now) }
+    requires { Decrypted held cipher.expanded.now sheet.entry.now sheet.body.now (16 * from)
+        (count sheet.entry.now - from) before }
+    ensures { result ≡ sheet_holds sheet.entry.entry.now
+        (decrypt_body (decrypt_under cipher.entry.expanded.now) sheet.entry.entry.now sheet.entry.body.now) }
 {
-    let sheet = entry::read_sheet(entry);
+    let read = entry::read_sheet(sheet.entry);
     let mut chain = Chain { previous: before };
-    let mut left = n;
-    let mut at = from;
-    while 0 < left {
-        let end = at + 16;
-        let step = chain.decrypt(
-            word_tables,
-            byte_tables,
-            expanded,
-            cipher_bytes::load(body, at),
-        );
-        let clear = step.block;
-        if !record::record_holds(sheet, clear) {
+    for i in from..read.count {
+        let clear = chain.decrypt(cipher, cipher_bytes::load(sheet.body, 16 * i));
+        if !record::record_holds(read, clear) {
             return false;
         }
-        let next = step.next;
-        chain = next;
-        left -= 1;
-        at = end;
     }
     held
 }
@@ -117,53 +92,19 @@ fn rest_holds(
 // tables they go four at a time as long as there are four, and no four ends the loop: with one way
 // out more the compiler would take the rest for seldom, and keep its rounds out of line (DECISIONS,
 // "By other tables records go").
-pub fn decrypted_sheet_holds(
-    word_tables: &[[u32; 256]],
-    byte_tables: &[[u8; 256]],
-    expanded: &[u32],
-    entry: &[u8],
-    body: &[u8],
-) -> bool
-    requires cipher_ready { CipherReady word_tables.now byte_tables.now expanded.now }
-    requires len { length entry.now ≡ 24 }
-    requires body_len { length body.now ≡ 16 * count entry.now }
-    ensures { result ≡ sheet_holds entry.now
-        (decrypt_body (decrypt_under expanded.now) entry.now body.now) }
+pub fn decrypted_sheet_holds<F: FFunctions>(cipher: Cipher<'_, F>, sheet: SheetBytes<'_>) -> bool
+    ensures { result ≡ sheet_holds sheet.entry.entry.now
+        (decrypt_body (decrypt_under cipher.entry.expanded.now) sheet.entry.entry.now sheet.entry.body.now) }
 {
-    let sheet = entry::read_sheet(entry);
-    let chain = Chain::new(entry);
+    let read = entry::read_sheet(sheet.entry);
+    let fours = fours::<F>(read.count);
+    let chain = Chain::new(sheet);
     let mut previous = chain.previous;
-    let mut left = sheet.count;
-    let mut at = 0;
     let mut holds = true;
-    let mut fours = fours(word_tables, left);
-    while 0 < fours {
-        let more = four_hold(
-            holds,
-            word_tables,
-            byte_tables,
-            expanded,
-            sheet,
-            body,
-            at,
-            previous,
-        );
-        holds = more;
-        let next = cipher_bytes::load(body, at + 48);
-        previous = next;
-        left -= 4;
-        at += 64;
-        fours -= 1;
+    for i in 0..fours {
+        let at = 64 * i;
+        holds = four_hold(holds, cipher, read, sheet.body, at, previous);
+        previous = cipher_bytes::load(sheet.body, at + 48);
     }
-    rest_holds(
-        holds,
-        word_tables,
-        byte_tables,
-        expanded,
-        entry,
-        body,
-        at,
-        left,
-        previous,
-    )
+    rest_holds(holds, cipher, sheet, 4 * fours, previous)
 }

@@ -1,53 +1,77 @@
 -- All bodies written one after the other: what is written of the output so far, and what is to
 -- come.
-use Rattle.std.specs.Prelude.{ℕ, ◌+◌, ◌-◌, ◌*◌, ◌≤◌, ◌<◌, ◌≡◌, List, ◌++◌, take, drop}
-use Rattle.std.proofs.Common.{◌∙◌, arith}
+use Rattle.std.specs.Prelude.{ℕ, ◌+◌, ◌-◌, ◌*◌, ◌≤◌, ◌≡◌, List, [], ◌∷◌, ◌++◌, length, take, drop}
+use Rattle.std.proofs.Common.{refl, ap, ◌∙◌, arith, length-append, length-drop, take-append-drop}
+use mathlib.Core.List.{map}
 use borrow.Rule.Slice.PartMut.{put_mid}
-use Rattle.std.proofs.Math.ListN.{length}
-use Rattle.planbook_spec.specs.Book.{count, pieces, sheet_count, contents, bodies, record_count, each_body}
-use Rattle.planbook_laws.specs.WalkLaws.{body_next, bodies_at}
+use Rattle.planbook_spec.specs.Book.{count, sheet_count, contents, bodies, record_count, each_body}
+use Rattle.planbook_spec.specs.BookSheets.{WholeSheet, sheets_from, sheets_of, join_bodies, on_body}
+use Rattle.planbook_laws.specs.BookLaws.{Formed}
 use Rattle.cipher_bytes.specs.ListLaws.{fill_end, fill_part, length_part}
-use Rattle.book_sheets.specs.declared.Cursor.{Cursor}
-use Rattle.book_sheets.specs.Cursors.{entry_at, body_at, Placed, First, Next, at_end}
 
--- o is the output at first. Before the cursor the bodies are written, after it they are to come.
-pub record BodiesFilled (f : List ℕ → List ℕ → List ℕ) (book o out : List ℕ) (c : Cursor) : Type 0 where
-  pub placed : Placed book c
+-- The bodies of the sheets ss that are left, with f applied to them.
+abbrev pub bodies_left : (List ℕ → List ℕ → List ℕ) → List WholeSheet → List ℕ
+bodies_left f ss = join_bodies (map (on_body f) ss)
+
+-- o is the output at first. Before `at` the bodies are written; those of ss are to come.
+pub record BodiesFilled (f : List ℕ → List ℕ → List ℕ) (book o out : List ℕ) (ss : List WholeSheet)
+    (at : ℕ) : Type 0 where
   pub long : length out ≡ length book
-  pub whole : take c.at out ++ each_body f (pieces 24 c.left (drop c.from book)) (drop c.at book)
+  pub room : at + length (join_bodies ss) ≡ length book
+  pub whole : take at out ++ bodies_left f ss
       ≡ take (4 + 24 * sheet_count book) o ++ each_body f (contents book) (bodies book)
 
-module _ (f : List ℕ → List ℕ → List ℕ) {book : List ℕ} (o : List ℕ) {c : Cursor} where
-  pub bodies_filled_first : First book c → length o ≡ length book → BodiesFilled f book o o c
-  bodies_filled_first i l = record { placed = i.placed; long = l; whole = rw (i.is, bodies_at book) }
+-- Bodies that are cut off a row, joined again.
+bodies_joined : (es : List (List ℕ)) (bs : List ℕ) → length bs ≡ 16 * record_count es
+    → join_bodies (sheets_from es bs) ≡ bs
+unfolding join_bodies sheets_from record_count
+bodies_joined [] [] h = refl
+bodies_joined [] (b ∷ bs) h = let z : ⊥ = omega arith in absurd z
+bodies_joined (e ∷ es) bs h =
+    ap (λ (l : List ℕ). take (16 * count e) bs ++ l)
+    (bodies_joined es (drop (16 * count e) bs) (omega (arith, length-drop (16 * count e) bs)))
+    ∙ take-append-drop (16 * count e) bs
 
-  module _ {out : List ℕ} (w : BodiesFilled f book o out c) where
-    abbrev body : List ℕ
-    body = f (entry_at book c) (body_at book c)
+-- The bodies of sheets, one after the other.
+bodies_mapped : (f : List ℕ → List ℕ → List ℕ) (es : List (List ℕ)) (bs : List ℕ)
+    → bodies_left f (sheets_from es bs) ≡ each_body f es bs
+unfolding join_bodies sheets_from each_body
+bodies_mapped f [] bs = refl
+bodies_mapped f (e ∷ es) bs = ap (λ (l : List ℕ). f e (take (16 * count e) bs) ++ l)
+    (bodies_mapped f es (drop (16 * count e) bs))
 
-    abbrev size : ℕ
-    size = 16 * count (entry_at book c)
+module _ (f : List ℕ → List ℕ → List ℕ) {book : List ℕ} (o : List ℕ) where
+  pub bodies_filled_first : {ss : List WholeSheet} → Formed book → length o ≡ length book → ss ≡ sheets_of book
+      → BodiesFilled f book o o ss (4 + 24 * sheet_count book)
+  bodies_filled_first g l e =
+      let size : length (bodies book) ≡ 16 * record_count (contents book) =
+      omega (arith, length-drop (24 * sheet_count book) (drop 4 book), length-drop 4 book, g.size) in
+      rw e (record {
+        long = l;
+        room = rw (bodies_joined (contents book) (bodies book) size) (omega (arith, size, g.size));
+        whole = rw (bodies_mapped f (contents book) (bodies book)) refl;
+      })
 
-    -- The part of the output for the body that the cursor is at.
-    pub part_fits : {n : Cursor} → Next book c n → c.at + size ≤ length out
-    part_fits s = rw w.long s.body_fits
+  module _ {out : List ℕ} {at : ℕ} where
+    -- The body of the sheet s, written.
+    module _ {s : WholeSheet} {ss : List WholeSheet} (w : BodiesFilled f book o out (s ∷ ss) at) where
+      -- The part of the output for it.
+      pub part_fits : at + length s.body ≤ length out
+      unfolding join_bodies
+      part_fits = omega (arith, w.long, w.room, length-append s.body (join_bodies ss))
 
-    pub bodies_filled_next : {n : Cursor} → Next book c n → 0 < c.left → length body ≡ size
-        → BodiesFilled f book o (put_mid c.at (n.at - c.at) out body) n
-    bodies_filled_next {n} s h l =
-        record {
-          placed = s.placed;
-          long = rw (at_end s) (length_part c.at size out body l (part_fits s) ∙ w.long);
-          whole =
-              rw s.is
-              (fill_part c.at size out body (each_body f (pieces 24 (c.left - 1) (drop (c.from + 24) book))
-              (drop (c.at + size) book)) l (part_fits s)
-              (rw (body_next f c.left c.from c.at book h) at w.whole));
-        }
+      pub bodies_filled_next : length (f s.entry s.body) ≡ length s.body
+          → BodiesFilled f book o (put_mid at (at + length s.body - at) out (f s.entry s.body)) ss
+          (at + length s.body)
+      unfolding join_bodies
+      bodies_filled_next l =
+          record {
+            long = length_part at (length s.body) out (f s.entry s.body) l part_fits ∙ w.long;
+            room = omega (arith, w.room, length-append s.body (join_bodies ss));
+            whole = fill_part at (length s.body) out (f s.entry s.body) (bodies_left f ss) l part_fits w.whole;
+          }
 
-    pub bodies_filled_end : c.left ≡ 0 → out ≡ take (4 + 24 * sheet_count book) o
+    pub bodies_filled_end : BodiesFilled f book o out [] at → out ≡ take (4 + 24 * sheet_count book) o
         ++ each_body f (contents book) (bodies book)
-    unfolding each_body record_count pieces
-    bodies_filled_end z =
-        let r : c.at + 16 * 0 ≡ length book = rw z at w.placed.rest in
-        fill_end out c.at _ (omega (arith, w.long)) (rw z at w.whole)
+    unfolding join_bodies
+    bodies_filled_end w = fill_end out at _ (omega (arith, w.long, w.room)) w.whole

@@ -2,18 +2,14 @@
 ghost use Rattle.std.specs.Prelude.{◌≡◌, ◌+◌, ◌*◌, ◌≤◌, length, take, set};
 ghost use Rattle.planbook_spec.specs.Book.{sheet_count};
 
-use book_format::u16_at;
+use book_format::{ENTRY_BYTES, HEAD_BYTES, u16_at};
 
 pub fn copy_front(kind: u8, book: &[u8], out: &mut [u8])
     requires { (4 + 24 * sheet_count book.now ≤ length book.now) × (length out.old ≡ length book.now) }
     ensures { take (4 + 24 * sheet_count book.now) out.new
         ≡ set (take (4 + 24 * sheet_count book.now) book.now) 0 kind }
 {
-    let end = book_format::HEAD_BYTES + book_format::ENTRY_BYTES * u16_at(book, 2);
-    let mut i = 0;
-    while i < end {
-        out[i] = book[i];
-        i += 1;
-    }
+    let end = HEAD_BYTES + ENTRY_BYTES * u16_at(book, 2);
+    out[..end].copy_from_slice(&book[..end]);
     out[0] = kind;
 }

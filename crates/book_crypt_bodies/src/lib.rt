@@ -7,41 +7,30 @@ pub mod front;
 
 ghost use Rattle.std.specs.Prelude.{◌≡◌, ◌++◌, ◌+◌, ◌*◌, length, take};
 ghost use Rattle.planbook_spec.specs.Book.{sheet_count, contents, bodies, each_body};
-ghost use Rattle.cipher_ffunction.specs.Tables.{CipherReady};
 ghost use Rattle.planbook_laws.specs.BookLaws.{Formed};
 ghost use Rattle.book_chain.specs.Crypt.{crypted_body};
 
+use book_format::{ENTRY_BYTES, HEAD_BYTES, u16_at};
+use book_sheets::Sheets;
+use cipher_block::Cipher;
+use cipher_ffunction::FFunctions;
+
 // Each body encrypted or decrypted where it was, and the front of the output left as it was.
-pub fn crypt_bodies(
+pub fn crypt_bodies<F: FFunctions>(
     decrypting: bool,
-    word_tables: &[[u32; 256]],
-    byte_tables: &[[u8; 256]],
-    expanded: &[u32],
+    cipher: Cipher<'_, F>,
     book: &[u8],
     out: &mut [u8],
 )
-    requires cipher_ready { CipherReady word_tables.now byte_tables.now expanded.now }
-    requires formed { Formed book.now × (length out.old ≡ length book.now) }
+    requires { Formed book.now × (length out.old ≡ length book.now) }
     ensures { out.new ≡ take (4 + 24 * sheet_count book.now) out.old
-        ++ each_body (crypted_body decrypting expanded.now) (contents book.now)
+        ++ each_body (crypted_body decrypting cipher.entry.expanded.now) (contents book.now)
         (bodies book.now) }
 {
-    let mut cursor = book_sheets::first(book);
-    while 0 < cursor.left {
-        let following = book_sheets::next(book, cursor);
-        let from = cursor.from;
-        let to = following.from;
-        let at = cursor.at;
-        let end = following.at;
-        book_crypt_sheet::crypt_sheet(
-            decrypting,
-            word_tables,
-            byte_tables,
-            expanded,
-            &book[from..to],
-            &book[at..end],
-            &mut out[at..end],
-        );
-        cursor = following;
+    let mut at = HEAD_BYTES + ENTRY_BYTES * u16_at(book, 2);
+    for sheet in Sheets::new(book) {
+        let end = at + sheet.body.len();
+        book_crypt_sheet::crypt_sheet(decrypting, cipher, sheet, &mut out[at..end]);
+        at = end;
     }
 }

@@ -1,1 +1,2 @@
 pub mod ClearWritten
+pub mod Continued

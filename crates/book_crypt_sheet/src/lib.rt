@@ -1,20 +1,23 @@
 // The body of one sheet, encrypted or decrypted: in decrypting by word tables four records at a
-// time, the rest and all encrypting block by block. `entry` is the sheet's entry. Of four, each is
-// decrypted by itself and added to the encrypted one before it, which is read from the body again.
+// time, the rest and all encrypting block by block. Of four, each is decrypted by itself and added
+// to the encrypted one before it, which is read from the body again.
 
 #![tactic(auto)]
 
 ghost use Rattle.std.specs.Prelude.{◌≡◌, true, List, ℕ, ◌+◌, ◌-◌, ◌*◌, ◌≤◌, ◌<◌, length};
 ghost use Rattle.planbook_spec.specs.Book.{count};
-ghost use Rattle.cipher_ffunction.specs.Tables.{CipherReady};
+ghost use Rattle.book_sheets.specs.Left.{whole_sheet};
 ghost use Rattle.book_chain.specs.ChainLaws.{Chained};
 ghost use Rattle.book_chain.specs.Crypt.{crypted_body};
 ghost use Rattle.book_crypt_sheet.specs.ClearWritten.{ClearWritten};
+ghost use Rattle.book_crypt_sheet.specs.Continued.{Continued};
 
 use book_chain::Chain;
 use book_format::u16_at;
+use book_sheets::SheetBytes;
+use cipher_block::Cipher;
 use cipher_block_four_way::decrypt_four;
-use cipher_ffunction::has_word_tables;
+use cipher_ffunction::FFunctions;
 
 // A decrypted block t added to the encrypted one before it, and written at `at`; the encrypted one
 // there is read.
@@ -33,22 +36,19 @@ fn write_clear(body: &[u8], out: &mut [u8], at: usize, previous: [u32; 4], t: [u
 
 // The four records at `at`, written; `previous` went before them, and what goes before the next is
 // returned.
-fn write_four(
-    word_tables: &[[u32; 256]],
-    byte_tables: &[[u8; 256]],
-    expanded: &[u32],
+fn write_four<F: FFunctions>(
+    cipher: Cipher<'_, F>,
     body: &[u8],
     out: &mut [u8],
     at: usize,
     previous: [u32; 4],
 ) -> [u32; 4]
-    requires cipher_ready { CipherReady word_tables.now byte_tables.now expanded.now }
-    requires at_in_bounds { (at + 64 ≤ length body.now) × (at + 64 ≤ length out.old) }
+    requires { (at + 64 ≤ length body.now) × (at + 64 ≤ length out.old) }
     ensures { (e : List ℕ) (left : ℕ) → length body.now ≡ 16 * count e
-        → Chained true expanded.now e body.now out.old at left previous → 4 ≤ left
-        → Chained true expanded.now e body.now out.new (at + 64) (left - 4) result }
+        → Chained true cipher.entry.expanded.now e body.now out.old at left previous → 4 ≤ left
+        → Chained true cipher.entry.expanded.now e body.now out.new (at + 64) (left - 4) result }
 {
-    let t = decrypt_four(word_tables, byte_tables, expanded, body, at);
+    let t = decrypt_four(cipher, body, at);
     let a = t.a;
     let b = t.b;
     let c = t.c;
@@ -62,73 +62,51 @@ fn write_four(
     write_clear(body, out, fourth, r, d)
 }
 
-// Where the records of a body begin that are still to be written, how many they are, and the block
-// before them.
+// How many records of a body are written, and the chain for the next one.
 #[derive(Drop)]
 pub struct Place {
-    pub at: usize,
-    pub left: usize,
-    pub previous: [u32; 4],
+    pub written: usize,
+    pub chain: Chain,
 }
 
 // The records of an encrypted body, four at a time as long as there are four.
-fn write_fours(
-    word_tables: &[[u32; 256]],
-    byte_tables: &[[u8; 256]],
-    expanded: &[u32],
-    entry: &[u8],
-    body: &[u8],
-    out: &mut [u8],
-) -> Place
-    requires cipher_ready { CipherReady word_tables.now byte_tables.now expanded.now }
-    requires len { length entry.now ≡ 24 }
-    requires body_len { (length body.now ≡ 16 * count entry.now) × (length out.old ≡ 16 * count entry.now) }
-    ensures { Chained true expanded.now entry.now body.now out.new
-        result.at result.left result.previous }
+fn write_fours<F: FFunctions>(cipher: Cipher<'_, F>, sheet: SheetBytes<'_>, out: &mut [u8]) -> Place
+    requires { length out.old ≡ 16 * count sheet.entry.now }
+    ensures { Continued true cipher.entry.expanded.now (whole_sheet sheet.entry) out.new result }
 {
-    let mut left = u16_at(entry, 4);
-    let chain = Chain::new(entry);
+    let fours = u16_at(sheet.entry, 4) / 4;
+    let chain = Chain::new(sheet);
     let mut previous = chain.previous;
-    let mut at = 0;
-    while 4 <= left {
-        let next = write_four(word_tables, byte_tables, expanded, body, out, at, previous);
+    for i in 0..fours {
+        let next = write_four(cipher, sheet.body, out, 64 * i, previous);
         previous = next;
-        left -= 4;
-        at += 64;
     }
-    Place { at, left, previous }
+    Place {
+        written: 4 * fours,
+        chain: Chain { previous },
+    }
 }
 
 // What of a body is written before the rest goes record by record: in decrypting by word tables,
 // all fours; in encrypting, where each record waits for the one before it, and by other tables,
 // which leave nothing to wait for, nothing.
-fn begin(
+fn begin<F: FFunctions>(
     decrypting: bool,
-    word_tables: &[[u32; 256]],
-    byte_tables: &[[u8; 256]],
-    expanded: &[u32],
-    entry: &[u8],
-    body: &[u8],
+    cipher: Cipher<'_, F>,
+    sheet: SheetBytes<'_>,
     out: &mut [u8],
 ) -> Place
-    requires cipher_ready { CipherReady word_tables.now byte_tables.now expanded.now }
-    requires len { length entry.now ≡ 24 }
-    requires body_len { (length body.now ≡ 16 * count entry.now) × (length out.old ≡ 16 * count entry.now) }
-    ensures { Chained decrypting expanded.now entry.now body.now
-        out.new result.at result.left result.previous }
+    requires { length out.old ≡ 16 * count sheet.entry.now }
+    ensures { Continued decrypting cipher.entry.expanded.now (whole_sheet sheet.entry) out.new result }
 {
     if decrypting {
-        if has_word_tables(word_tables) {
-            return write_fours(word_tables, byte_tables, expanded, entry, body, out);
+        if F::waits() {
+            return write_fours(cipher, sheet, out);
         }
     }
-    let left = u16_at(entry, 4);
-    let chain = Chain::new(entry);
-    let previous = chain.previous;
     Place {
-        at: 0,
-        left,
-        previous,
+        written: 0,
+        chain: Chain::new(sheet),
     }
 }
 
@@ -140,48 +118,29 @@ fn following(end: usize, size: usize) -> usize
     if end < size { end } else { 0 }
 }
 
-pub fn crypt_sheet(
+pub fn crypt_sheet<F: FFunctions>(
     decrypting: bool,
-    word_tables: &[[u32; 256]],
-    byte_tables: &[[u8; 256]],
-    expanded: &[u32],
-    entry: &[u8],
-    body: &[u8],
+    cipher: Cipher<'_, F>,
+    sheet: SheetBytes<'_>,
     out: &mut [u8],
 )
-    requires cipher_ready { CipherReady word_tables.now byte_tables.now expanded.now }
-    requires len { length entry.now ≡ 24 }
-    requires body_len { (length body.now ≡ 16 * count entry.now) × (length out.old ≡ 16 * count entry.now) }
-    ensures { out.new ≡ crypted_body decrypting expanded.now entry.now
-        body.now }
+    requires { length out.old ≡ 16 * count sheet.entry.now }
+    ensures { out.new ≡ crypted_body decrypting cipher.entry.expanded.now sheet.entry.entry.now
+        sheet.entry.body.now }
 {
-    let start = begin(
-        decrypting,
-        word_tables,
-        byte_tables,
-        expanded,
-        entry,
-        body,
-        out,
-    );
-    let mut left = start.left;
-    if left == 0 {
+    let count = u16_at(sheet.entry, 4);
+    let start = begin(decrypting, cipher, sheet, out);
+    if start.written == count {
         return;
     }
-    let mut at = start.at;
-    let previous = start.previous;
-    let mut chain = Chain { previous };
-    let mut block = cipher_bytes::load(body, at);
-    while 0 < left {
+    let mut chain = start.chain;
+    let mut block = cipher_bytes::load(sheet.body, 16 * start.written);
+    for i in start.written..count {
+        let at = 16 * i;
         let end = at + 16;
-        let step = chain.crypt(decrypting, word_tables, byte_tables, expanded, block);
-        let written = step.block;
-        let from = following(end, body.len());
-        let read = cipher_bytes::exchange(&mut out[at..end], written, body, from);
+        let written = chain.crypt(decrypting, cipher, block);
+        let from = following(end, sheet.body.len());
+        let read = cipher_bytes::exchange(&mut out[at..end], written, sheet.body, from);
         block = read;
-        let next = step.next;
-        chain = next;
-        left -= 1;
-        at = end;
     }
 }

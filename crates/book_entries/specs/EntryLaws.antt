@@ -1,21 +1,20 @@
 -- Laws of an entry that is read: what the reader's answer says of it.
-use Rattle.std.specs.Prelude.{ℕ, ◌≤◌, ◌≡◌, refl, Bool, true, false, ◌&&◌, List, eqb, leb, ltb, get_or}
-use Rattle.std.proofs.Common.{sym, ◌∙◌, arith, leb-true}
+use Rattle.std.specs.Prelude.{ℕ, ◌≤◌, ◌≡◌, refl, Bool, true, false, ◌&&◌, List, eqb, leb, ltb, get_or, Some, None}
+use Rattle.std.proofs.Common.{sym, ◌∙◌, leb-true}
 use Rattle.clefia_spec.specs.Cases.{both_true}
 use Rattle.planbook_spec.specs.Book.{trial, count, replicates, entry_holds}
 use Rattle.book_entries.specs.declared.entry.Sheet.{Sheet}
-use Rattle.book_entries.specs.declared.entry.Entry.TheVariants.{Good, Broken}
 use Rattle.book_entries.specs.Entry.{sheet_of, entry_of}
 
 pub entry_good : (p : ℕ) (e : List ℕ) (s : Sheet) (t : Bool) → s ≡ sheet_of e
     → t ≡ (ltb p s.trial && leb 1 s.count && leb s.count 1024 && leb s.replicates 8 && eqb (get_or e 7 0) 0)
-    → t ≡ true → Good s ≡ entry_of p e
+    → t ≡ true → Some s ≡ entry_of p e
 unfolding entry_holds
 entry_good p e s t hs ht h = let q : entry_holds p e ≡ true = sym (rw hs at ht) ∙ h in rw (q, hs)
 
 pub entry_broken : (p : ℕ) (e : List ℕ) (s : Sheet) (t : Bool) → s ≡ sheet_of e
     → t ≡ (ltb p s.trial && leb 1 s.count && leb s.count 1024 && leb s.replicates 8 && eqb (get_or e 7 0) 0)
-    → t ≡ false → Broken ≡ entry_of p e
+    → t ≡ false → None ≡ entry_of p e
 unfolding entry_holds
 entry_broken p e s t hs ht h = let q : entry_holds p e ≡ false = sym (rw hs at ht) ∙ h in rw q
 
@@ -33,15 +32,17 @@ unfolding entry_holds
 few_of p e h = leb-true (count e) 1024 (third_passed (ltb p (trial e)) (leb 1 (count e)) (leb (count e) 1024)
     (leb (replicates e) 8) (eqb (get_or e 7 0) 0) h)
 
-held_by : (p : ℕ) (e : List ℕ) (s : Sheet) (t : Bool) → entry_holds p e ≡ t → Good s ≡ entry_of p e → Held p e s
-held_by p e s true h g = let q : Good s ≡ Good (sheet_of e) = rw h at g in
+held_by : (p : ℕ) (e : List ℕ) (s : Sheet) (t : Bool) → entry_holds p e ≡ t → Some s ≡ entry_of p e → Held p e s
+unfolding entry_holds
+held_by p e s true h g = let q : Some s ≡ Some (sheet_of e) = rw h at g in
     record { holds = h; sheet = cc; few = few_of p e h }
-held_by p e s false h g = let q : Good s ≡ Broken = rw h at g in let z : ◌≡◌ {A = ℕ} 0 1 = cc in absurd (omega arith)
+held_by p e s false h g = let q : Some s ≡ None = g ∙ sym (entry_broken p e (sheet_of e) false refl (sym h) refl) in cc
 
-pub held : (p : ℕ) (e : List ℕ) (s : Sheet) → Good s ≡ entry_of p e → Held p e s
+pub held : (p : ℕ) (e : List ℕ) (s : Sheet) → Some s ≡ entry_of p e → Held p e s
 held p e s g = held_by p e s (entry_holds p e) refl g
 
-pub broken_by : (p : ℕ) (e : List ℕ) (t : Bool) → entry_holds p e ≡ t → Broken ≡ entry_of p e → entry_holds p e ≡ false
-broken_by p e true h g = let q : Broken ≡ Good (sheet_of e) = rw h at g in let z : ◌≡◌ {A = ℕ} 0 1 = cc in
-    absurd (omega arith)
+pub broken_by : (p : ℕ) (e : List ℕ) (t : Bool) → entry_holds p e ≡ t → None ≡ entry_of p e → entry_holds p e ≡ false
+unfolding entry_holds
+broken_by p e true h g =
+    let q : None ≡ Some (sheet_of e) = g ∙ sym (entry_good p e (sheet_of e) true refl (sym h) refl) in cc
 broken_by p e false h g = h

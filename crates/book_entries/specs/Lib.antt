@@ -1,3 +1,4 @@
 pub mod RecordWords
 pub mod Entry
 pub mod EntryLaws
+pub mod Pieces

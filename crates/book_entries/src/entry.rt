@@ -1,4 +1,4 @@
-// An entry of the contents, 24 bytes: read as its sheet, or else as broken.
+// An entry of the contents, 24 bytes: read as its sheet, where it holds.
 ghost use Rattle.std.specs.Prelude.{◌≡◌, length};
 ghost use Rattle.planbook_spec.specs.Book.{replicates};
 ghost use Rattle.book_entries.specs.Entry.{sheet_of, entry_of};
@@ -14,21 +14,15 @@ pub struct Sheet {
     pub replicates: u32,
 }
 
-#[derive(Drop)]
-pub enum Entry {
-    Good(Sheet),
-    Broken,
-}
-
 // The number of replicates. The books of past seasons have 0, which is read as 4.
+#[tactic(auto, unfolding(planbook_spec::specs::Book::replicates))]
 fn read_replicates(entry: &[u8]) -> u32
     requires { length entry.now ≡ 24 }
     ensures { result ≡ replicates entry.now }
 {
-    if entry[6] == 0 {
-        book_format::DEFAULT_REPLICATES
-    } else {
-        entry[6] as u32
+    match entry[6] {
+        0 => book_format::DEFAULT_REPLICATES,
+        chosen => u32::from(chosen),
     }
 }
 
@@ -44,21 +38,17 @@ pub fn read_sheet(entry: &[u8]) -> Sheet
     }
 }
 
-// `previous` is the trial of the entry before, or 0.
-pub fn read_entry(entry: &[u8], previous: u32) -> Entry
+// The sheet, where the entry holds. `previous` is the trial of the entry before, or 0.
+#[tactic(auto, unfolding(planbook_spec::specs::Book::entry_holds))]
+pub fn read_entry(entry: &[u8], previous: u32) -> Option<Sheet>
     requires { length entry.now ≡ 24 }
     ensures { result ≡ entry_of previous entry.now }
 {
     let sheet = read_sheet(entry);
-    // `&` tries every test, which leaves the proof one way to follow.
-    if (previous < sheet.trial)
-        & (1 <= sheet.count)
-        & (sheet.count <= book_format::MAX_SHEET_RECORDS)
-        & (sheet.replicates <= book_format::MAX_REPLICATES)
-        & (entry[7] == 0)
-    {
-        Entry::Good(sheet)
-    } else {
-        Entry::Broken
-    }
+    let holds = previous < sheet.trial
+        && 1 <= sheet.count
+        && sheet.count <= book_format::MAX_SHEET_RECORDS
+        && sheet.replicates <= book_format::MAX_REPLICATES
+        && entry[7] == 0;
+    holds.then_some(sheet)
 }

@@ -1,24 +1,23 @@
 // The records of a sheet, check 11.
 ghost use Rattle.std.specs.Prelude.{◌≡◌, List, ℕ, ◌+◌, ◌*◌, ◌/◌, ◌%◌, length};
 ghost use Rattle.clefia_spec.specs.Words.{bytes_of};
-ghost use Rattle.planbook_spec.specs.Book.{count, plot_holds, record_holds, sheet_holds};
+ghost use Rattle.planbook_spec.specs.Book.{plot_holds, record_holds, sheet_holds};
 ghost use Rattle.book_entries.specs.Entry.{sheet_of};
 
 use super::entry;
 use super::entry::Sheet;
+use book_sheets::SheetBytes;
 
-// What holds of the plot of a record whose third and fourth word these are. `&` and `|` try every
-// test, which leaves the proof one way to follow.
+// What holds of the plot of a record whose third and fourth word these are.
+#[tactic(auto, unfolding(planbook_spec::specs::Book::plot_holds))]
 fn plot_holds(third: u32, fourth: u32) -> bool
     ensures { result ≡ plot_holds (third / 256 % 65536) (third % 256 * 256 + fourth / 16777216) }
 {
     let row = third / 256 % 65536;
     let column = third % 256 * 256 + fourth / 16777216;
-    (row == 0) & (column == 0)
-        | (1 <= row)
-            & (row <= book_format::MAX_ROW)
-            & (1 <= column)
-            & (column <= book_format::MAX_COLUMN)
+    row == 0 && column == 0
+        || (1..=book_format::MAX_ROW).contains(&row)
+            && (1..=book_format::MAX_COLUMN).contains(&column)
 }
 
 // What holds of a record, on its four words: trial; entry; replicate, row and the high byte of the
@@ -27,6 +26,7 @@ pub fn record_holds(sheet: Sheet, r: [u32; 4]) -> bool
     ensures { (e : List ℕ) → sheet ≡ sheet_of e → result ≡ record_holds e (bytes_of r) }
 {
     let replicate = r[2] / 16777216;
+    // `&` tries every test, which leaves the proof one way to follow.
     (r[0] == sheet.trial)
         & (1 <= r[1])
         & (1 <= replicate)
@@ -35,21 +35,21 @@ pub fn record_holds(sheet: Sheet, r: [u32; 4]) -> bool
         & (r[3] % 16777216 == 0)
 }
 
-// Every record of a clear body.
-pub fn clear_sheet_holds(entry: &[u8], body: &[u8]) -> bool
-    requires len { length entry.now ≡ 24 }
-    requires body_len { length body.now ≡ 16 * count entry.now }
-    ensures { result ≡ sheet_holds entry.now body.now }
+// The same, on its bytes.
+fn bytes_hold(sheet: Sheet, bytes: &[u8]) -> bool
+    requires { length bytes.now ≡ 16 }
+    ensures { (e : List ℕ) → sheet ≡ sheet_of e → result ≡ record_holds e bytes.now }
 {
-    let sheet = entry::read_sheet(entry);
-    let mut at = 0;
-    let mut left = sheet.count;
-    while 0 < left {
-        if !record_holds(sheet, cipher_bytes::load(body, at)) {
-            return false;
-        }
-        at += book_format::RECORD_BYTES;
-        left -= 1;
-    }
-    true
+    record_holds(sheet, cipher_bytes::load(bytes, 0))
+}
+
+// Every record of a sheet of a clear book.
+pub fn clear_sheet_holds(sheet: SheetBytes<'_>) -> bool
+    ensures { result ≡ sheet_holds sheet.entry.entry.now sheet.entry.body.now }
+{
+    let read = entry::read_sheet(sheet.entry);
+    sheet
+        .body
+        .chunks_exact(book_format::RECORD_BYTES)
+        .all(|bytes| bytes_hold(read, bytes))
 }

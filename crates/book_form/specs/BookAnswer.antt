@@ -1,9 +1,7 @@
 -- Checks 5 to 11 of a book, the form and then the records. f makes a body clear.
-use Rattle.std.specs.Prelude.{ℕ, ◌≡◌, Bool, List, [], ◌∷◌}
+use Rattle.std.specs.Prelude.{ℕ, ◌≡◌, Bool, List, [], ◌∷◌, Result, Ok, Err}
 use Rattle.std.proofs.Math.Path.{sym}
 use Rattle.std.proofs.Common.{ap, ◌∙◌}
-use Rattle.call_answer.specs.declared.Answer.{Answer}
-use Rattle.call_answer.specs.declared.Answer.TheVariants.{Accepted, Refused}
 use Rattle.call_answer.specs.Answer.{answer_of}
 use Rattle.call_answer.specs.Judging.{stopped_first, passed_first, GroupPassed, group_passed}
 use Rattle.planbook_spec.specs.Outcome.{accepted, check, judged}
@@ -13,16 +11,16 @@ use Rattle.planbook_laws.specs.BookLaws.{Formed, formed}
 use Rattle.book_form.specs.Form.{form_answer}
 
 -- The first of the checks that fails, or the count of the records.
-abbrev pub book_answer : ℕ → (List ℕ → List ℕ → List ℕ) → List ℕ → Answer
+abbrev pub book_answer : ℕ → (List ℕ → List ℕ → List ℕ) → List ℕ → Result ℕ ℕ
 book_answer kind f book = answer_of (judged (form_and_records kind f book) (accepted (record_count (contents book)) []))
 
 -- A wrong form; and, once the form holds, the records.
 module _ (kind : ℕ) (f : List ℕ → List ℕ → List ℕ) (book : List ℕ) where
-  pub book_stopped : {r : Answer} {c : ℕ} → r ≡ form_answer kind book → r ≡ Refused c → r ≡ book_answer kind f book
+  pub book_stopped : {r : Result ℕ ℕ} {c : ℕ} → r ≡ form_answer kind book → r ≡ Err c → r ≡ book_answer kind f book
   book_stopped e h = h
       ∙ sym (ap answer_of (stopped_first (form_checks kind book) _ (record_count (contents book)) _ (sym h ∙ e)))
 
-  module _ {records : ℕ} (e : Accepted records ≡ form_answer kind book) where
+  module _ {records : ℕ} (e : Ok records ≡ form_answer kind book) where
     passed_form : GroupPassed (form_checks kind book) (record_count (contents book)) records
     passed_form = group_passed (form_checks kind book) (record_count (contents book)) e
 

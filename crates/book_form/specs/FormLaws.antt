@@ -1,9 +1,7 @@
 -- Laws of a book's form: what the first group of checks gives the second, and the two together.
-use Rattle.std.specs.Prelude.{ℕ, ◌+◌, ◌*◌, ◌≤◌, ◌≡◌, List, length, take, drop}
+use Rattle.std.specs.Prelude.{ℕ, ◌+◌, ◌*◌, ◌≤◌, ◌≡◌, List, length, take, drop, Result, Ok, Err}
 use Rattle.std.proofs.Math.Path.{sym}
 use Rattle.std.proofs.Common.{ap, ◌∙◌, leb-true}
-use Rattle.call_answer.specs.declared.Answer.{Answer}
-use Rattle.call_answer.specs.declared.Answer.TheVariants.{Accepted, Refused}
 use Rattle.call_answer.specs.Answer.{answer_of}
 use Rattle.planbook_spec.specs.Outcome.{accepted}
 use Rattle.planbook_spec.specs.OutcomeLaws.{AllPass, pass_head, pass_tail}
@@ -22,8 +20,8 @@ head_fits kind book p =
     let q : AllPass (drop 2 (take 4 (form_checks kind book))) = pass_tail (pass_tail p) in
     record { few = leb-true _ 64 (pass_head q); long = leb-true _ (length book) (pass_head (pass_tail q)) }
 
-module _ (kind : ℕ) (book : List ℕ) {r : Answer} where
-  pub form_stopped : {c : ℕ} → r ≡ head_answer kind book → r ≡ Refused c → r ≡ form_answer kind book
+module _ (kind : ℕ) (book : List ℕ) {r : Result ℕ ℕ} where
+  pub form_stopped : {c : ℕ} → r ≡ head_answer kind book → r ≡ Err c → r ≡ form_answer kind book
   unfolding form_checks
   form_stopped {c} e h =
       h ∙ sym (ap answer_of (stopped_first (take 4 (form_checks kind book)) (drop 4 (form_checks kind book))
@@ -36,7 +34,7 @@ module _ (kind : ℕ) (book : List ℕ) {r : Answer} where
       (accepted _ _) p))
 
 -- The number of sheets that the first group answers.
-pub head_formed : (kind : ℕ) (book : List ℕ) {sheets : ℕ} → Accepted sheets ≡ head_answer kind book
+pub head_formed : (kind : ℕ) (book : List ℕ) {sheets : ℕ} → Ok sheets ≡ head_answer kind book
     → (sheets ≡ sheet_count book) × (sheets ≤ 64) × (4 + 24 * sheets ≤ length book)
 head_formed kind book e =
     let w : GroupPassed (take 4 (form_checks kind book)) (sheet_count book) _ =

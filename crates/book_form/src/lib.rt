@@ -5,17 +5,17 @@
 
 ghost use Rattle.std.specs.Prelude.{◌≡◌, ◌&&◌, ◌+◌, ◌*◌, ◌≤◌, eqb, leb, length, get_or};
 ghost use Rattle.planbook_spec.specs.Book.{sheet_count};
+ghost use Rattle.call_answer.specs.Answer.{numbered};
 ghost use Rattle.book_form.specs.Form.{head_answer, contents_answer, form_answer};
 
 use book_entries::entry;
-use book_entries::entry::Entry;
 use book_format::u16_at;
-use call_answer::Answer;
+use call_answer::Check;
 
 fn sized(book: &[u8]) -> bool
     ensures { result ≡ (leb 4 (length book.now) && leb (length book.now) 65532) }
 {
-    book_format::HEAD_BYTES <= book.len() && book.len() <= book_format::MAX_BOOK_BYTES
+    (book_format::HEAD_BYTES..=book_format::MAX_BOOK_BYTES).contains(&book.len())
 }
 
 fn headed(kind: u8, book: &[u8]) -> bool
@@ -26,57 +26,49 @@ fn headed(kind: u8, book: &[u8]) -> bool
 }
 
 // Checks 5 to 8. The count is the number of sheets.
-pub fn check_head(kind: u8, book: &[u8]) -> Answer
-    ensures { result ≡ head_answer kind book.now }
+#[tactic(auto, unfolding(planbook_spec::specs::Book::form_checks, planbook_spec::specs::Outcome::judged))]
+pub fn check_head(kind: u8, book: &[u8]) -> Result<usize, Check>
+    ensures { numbered result ≡ head_answer kind book.now }
 {
     if !sized(book) {
-        return Answer::Refused(5);
+        return Err(Check::BookLength);
     }
     if !headed(kind, book) {
-        return Answer::Refused(6);
+        return Err(Check::BookKind);
     }
     let sheets = u16_at(book, 2);
     if book_format::MAX_SHEETS < sheets {
-        return Answer::Refused(7);
+        return Err(Check::Sheets);
     }
     if book.len() < book_format::HEAD_BYTES + book_format::ENTRY_BYTES * sheets {
-        return Answer::Refused(8);
+        return Err(Check::ContentsCut);
     }
-    Answer::Accepted(sheets as u64)
+    Ok(sheets)
 }
 
 // Checks 9 and 10, by a walk through the contents. The count is that of the records.
-fn check_contents(book: &[u8], sheets: usize) -> Answer
+fn check_contents(book: &[u8], sheets: usize) -> Result<u64, Check>
     requires { (sheets ≡ sheet_count book.now) × (sheets ≤ 64) × (4 + 24 * sheets ≤ length book.now) }
-    ensures { result ≡ contents_answer book.now }
+    ensures { numbered result ≡ contents_answer book.now }
 {
+    let end = book_format::HEAD_BYTES + book_format::ENTRY_BYTES * sheets;
     let mut previous = 0;
-    let mut records: usize = 0;
-    let mut at = book_format::HEAD_BYTES;
-    let mut left = sheets;
-    while 0 < left {
-        let end = at + book_format::ENTRY_BYTES;
-        let Entry::Good(sheet) = entry::read_entry(&book[at..end], previous) else {
-            return Answer::Refused(9);
-        };
+    let mut records = 0;
+    for entry in book[book_format::HEAD_BYTES..end].chunks_exact(book_format::ENTRY_BYTES) {
+        let sheet = entry::read_entry(entry, previous).ok_or(Check::Entry)?;
         previous = sheet.trial;
         records += sheet.count;
-        at = end;
-        left -= 1;
     }
-    if book.len() != at + book_format::RECORD_BYTES * records {
-        return Answer::Refused(10);
+    if book.len() != end + book_format::RECORD_BYTES * records {
+        return Err(Check::BodyLength);
     }
-    Answer::Accepted(records as u64)
+    Ok(records as u64)
 }
 
 // Checks 5 to 10; `kind` is the permitted first byte. The count is that of the records.
-pub fn check_form(kind: u8, book: &[u8]) -> Answer
-    ensures { result ≡ form_answer kind book.now }
+pub fn check_form(kind: u8, book: &[u8]) -> Result<u64, Check>
+    ensures { numbered result ≡ form_answer kind book.now }
 {
-    let head = check_head(kind, book);
-    let Answer::Accepted(sheets) = head else {
-        return head;
-    };
-    check_contents(book, sheets as usize)
+    let sheets = check_head(kind, book)?;
+    check_contents(book, sheets)
 }

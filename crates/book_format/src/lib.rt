@@ -2,7 +2,7 @@
 
 #![tactic(auto)]
 
-ghost use Rattle.std.specs.Prelude.{◌≡◌, ◌+◌, ◌*◌, ◌≤◌, length};
+ghost use Rattle.std.specs.Prelude.{◌≡◌, ◌+◌, ◌≤◌, length};
 ghost use Rattle.planbook_spec.specs.Book.{number};
 
 pub const HEAD_BYTES: usize = 4;
@@ -29,16 +29,10 @@ pub const CLEAR: u8 = 1;
 
 pub const SEALED: u8 = 2;
 
-fn join(a: u8, b: u8) -> usize
-    ensures { result ≡ a * 256 + b }
-{
-    a as usize * 256 + b as usize
-}
-
 // The number at `at`, the highest byte first.
 pub fn u16_at(src: &[u8], at: usize) -> usize
     requires { at + 2 ≤ length src.now }
     ensures { result ≡ number at 2 src.now }
 {
-    join(src[at], src[at + 1])
+    usize::from(u16::from_be_bytes([src[at], src[at + 1]]))
 }

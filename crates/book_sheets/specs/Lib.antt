@@ -1,2 +1,4 @@
 pub mod Cursors
 pub mod Tested
+pub mod Rows
+pub mod Left

@@ -2,12 +2,15 @@
 
 #![tactic(auto)]
 
+mod walk;
+
 ghost use Rattle.std.specs.Prelude.{◌≤◌, ◌<◌};
 ghost use Rattle.planbook_spec.specs.Book.{sheet_count};
 ghost use Rattle.planbook_laws.specs.BookLaws.{Formed};
 ghost use Rattle.book_sheets.specs.Cursors.{Placed, First, Next, Reached};
 
 use book_format::u16_at;
+pub use walk::{SheetBytes, Sheets};
 
 #[derive(Clone, Copy)]
 pub struct Cursor {
@@ -50,11 +53,8 @@ pub fn seek(book: &[u8], sheet: usize) -> Cursor
     ensures { Reached book.now sheet result }
 {
     let mut cursor = first(book);
-    let mut i = 0;
-    while i < sheet {
-        let following = next(book, cursor);
-        cursor = following;
-        i += 1;
+    for _ in 0..sheet {
+        cursor = next(book, cursor);
     }
     cursor
 }

@@ -2,34 +2,32 @@
 
 #![tactic(auto)]
 
-ghost use Rattle.cipher_ffunction.specs.Tables.{CipherReady};
-ghost use Rattle.call_answer.specs.Answer.{Answered};
+ghost use Rattle.call_answer.specs.Answer.{numbered, Answered};
 ghost use Rattle.call_block.specs.BlockUnder.{block_under};
 
-use call_answer::Answer;
+use call_answer::Check;
+use cipher_block::Cipher;
+use cipher_ffunction::FFunctions;
 
-pub fn crypt_block(
+pub fn crypt_block<F: FFunctions>(
     decrypting: bool,
-    word_tables: &[[u32; 256]],
-    byte_tables: &[[u8; 256]],
-    expanded: &[u32],
+    cipher: Cipher<'_, F>,
     block: &[u8],
     out: &mut [u8],
-) -> Answer
-    requires { CipherReady word_tables.now byte_tables.now expanded.now }
-    ensures { Answered (block_under decrypting expanded.now block.now out.old)
-        out.old result out.new }
+) -> Result<u64, Check>
+    ensures { Answered (block_under decrypting cipher.entry.expanded.now block.now out.old)
+        out.old (numbered result) out.new }
 {
     if block.len() != 16 {
-        return Answer::Refused(3);
+        return Err(Check::BlockLength);
     }
     if out.len() != 16 {
-        return Answer::Refused(4);
+        return Err(Check::OutputLength);
     }
     if decrypting {
-        cipher_block::decrypt_block(word_tables, byte_tables, expanded, block, out);
-        return Answer::Accepted(1);
+        cipher.decrypt_block(block, out);
+        return Ok(1);
     }
-    cipher_block::encrypt_block(word_tables, byte_tables, expanded, block, out);
-    Answer::Accepted(1)
+    cipher.encrypt_block(block, out);
+    Ok(1)
 }

@@ -1,3 +1,4 @@
 pub mod CheckAnswers
 pub mod CheckTests
 pub mod FirstChecks
+pub mod Ways

@@ -2,65 +2,70 @@
 
 #![tactic(auto)]
 
-ghost use Rattle.std.specs.Prelude.{◌≡◌, ◌||◌, [], ◌∷◌, eqb, length, ◌*◌, ◌≤◌};
+ghost use Rattle.std.specs.Prelude.{◌≡◌, [], ◌∷◌, length, ◌*◌, ◌≤◌};
 ghost use Rattle.clefia_spec.specs.Words.{bytes_of};
 ghost use Rattle.planbook_spec.specs.Outcome.{accepted, judged};
 ghost use Rattle.planbook_spec.specs.Checks.{output_check};
-ghost use Rattle.call_answer.specs.Answer.{Answered};
+ghost use Rattle.call_answer.specs.Answer.{numbered, Answered};
 ghost use Rattle.call_checks.specs.CheckAnswers.{key_answer, words_answer};
+ghost use Rattle.call_checks.specs.Ways.{way_of};
 
-use call_answer::Answer;
-
-// A number is one of three, compared whole.
-fn one_of(n: u64, a: u64, b: u64, c: u64) -> bool
-    ensures { result ≡ (eqb n a || eqb n b || eqb n c) }
-{
-    if n == a {
-        return true;
-    }
-    if n == b {
-        return true;
-    }
-    n == c
-}
+use call_answer::Check;
 
 // Check 1, of a key. The count is that of the expanded key's words: four that whiten and two for
 // each of 18, 22 or 26 rounds, which is 24 more than the key has bytes.
-pub fn check_key(key: &[u8]) -> Answer
-    ensures { result ≡ key_answer key.now }
+pub fn check_key(key: &[u8]) -> Result<usize, Check>
+    ensures { numbered result ≡ key_answer key.now }
 {
-    if !one_of(key.len() as u64, 16, 24, 32) {
-        return Answer::Refused(1);
+    match key.len() {
+        16 | 24 | 32 => Ok(24 + key.len()),
+        _ => Err(Check::KeyLength),
     }
-    Answer::Accepted(24 + key.len() as u64)
 }
 
 // Check 14, of an expanded key given as bytes. The count is that of its words.
-pub fn check_words(words: &[u8]) -> Answer
-    ensures { result ≡ words_answer words.now }
+pub fn check_words(words: &[u8]) -> Result<usize, Check>
+    ensures { numbered result ≡ words_answer words.now }
 {
-    if !one_of(words.len() as u64, 160, 192, 224) {
-        return Answer::Refused(14);
+    match words.len() {
+        160 | 192 | 224 => Ok(words.len() / 4),
+        _ => Err(Check::WordsLength),
     }
-    Answer::Accepted(words.len() as u64 / 4)
 }
 
-// Check 2, of a way: whether it is passed.
-pub fn check_way(way: u64) -> bool
-    ensures { result ≡ (eqb way 1 || eqb way 2 || eqb way 3) }
-{
-    one_of(way, 1, 2, 3)
+// The strategies of the cipher, which C numbers from 1.
+#[derive(Clone, Copy, PartialEq, Eq)]
+pub enum Way {
+    ByteTables,
+    WordTables,
+    Rules,
+}
+
+// Check 2, of a way.
+impl TryFrom<u64> for Way {
+    type Error = Check;
+
+    ghost try_from_gives = { λ n way. way ≡ way_of n };
+
+    fn try_from(number: u64) -> Result<Way, Check> {
+        match number {
+            1 => Ok(Way::ByteTables),
+            2 => Ok(Way::WordTables),
+            3 => Ok(Way::Rules),
+            _ => Err(Check::Way),
+        }
+    }
 }
 
 // Check 4, and then the words as bytes; the count is that of the words.
-pub fn write_words(src: &[u32], out: &mut [u8]) -> Answer
+pub fn write_words(src: &[u32], out: &mut [u8]) -> Result<u64, Check>
     requires { length src.now ≤ 92 }
     ensures { Answered (judged (output_check (4 * length src.now) out.old ∷ [])
-        (accepted (length src.now) (bytes_of src.now))) out.old result out.new }
+        (accepted (length src.now) (bytes_of src.now))) out.old (numbered result) out.new }
 {
     if out.len() != 4 * src.len() {
-        return Answer::Refused(4);
+        return Err(Check::OutputLength);
     }
     cipher_bytes::store_all(out, src);
-    Answer::Accepted(src.len() as u64)
+    Ok(src.len() as u64)
 }

@@ -1,11 +1,10 @@
 -- The call for the constants: what it answers where the key length is permitted, and where not.
-use Rattle.std.specs.Prelude.{ℕ, ◌*◌, ◌≢◌, List, [], ◌∷◌, ◌≡◌, length}
+use Rattle.std.specs.Prelude.{ℕ, ◌*◌, ◌≢◌, List, [], ◌∷◌, ◌≡◌, length, Result}
 use Rattle.std.proofs.Common.{sym, ap, ◌∙◌}
 use Rattle.clefia_spec.specs.Words.{bytes_of, KeyLength}
 use Rattle.clefia_spec.specs.Constants.{constants}
 use Rattle.clefia_laws.specs.KeyLaws.{length_constants}
 use Rattle.call_answer.specs.Answer.{Answered}
-use Rattle.call_answer.specs.declared.Answer.{Answer}
 use Rattle.planbook_spec.specs.Outcome.{refused, accepted, judged}
 use Rattle.planbook_spec.specs.Checks.{output_check, constant_count, constants_call}
 use Rattle.planbook_laws.specs.CheckLaws.{key_accepted, key_refused}
@@ -18,7 +17,7 @@ constants_checked {n} out k = key_accepted _ _ k
     ∙ ap (λ (m : ℕ). judged (output_check (4 * m) out ∷ []) (accepted m (bytes_of (constants n))))
     (sym (length_constants k))
 
-pub answered_constants : {n keyLength : ℕ} {ws out exit : List ℕ} {r : Answer} → KeyLength n → keyLength ≡ n
+pub answered_constants : {n keyLength : ℕ} {ws out exit : List ℕ} {r : Result ℕ ℕ} → KeyLength n → keyLength ≡ n
     → ws ≡ constants n
     → Answered (judged (output_check (4 * length ws) out ∷ []) (accepted (length ws) (bytes_of ws))) out r exit
     → Answered (constants_call keyLength out) out r exit

@@ -1,11 +1,9 @@
 -- What the calls cite: what is known of words that passed, and a task under words that were read.
-use Rattle.std.specs.Prelude.{ℕ, ◌*◌, ◌/◌, ◌≤◌, List, [], ◌∷◌, ◌≡◌, refl, length}
+use Rattle.std.specs.Prelude.{ℕ, ◌*◌, ◌/◌, ◌≤◌, List, [], ◌∷◌, ◌≡◌, refl, length, Result, Ok}
 use Rattle.std.proofs.Common.{arith, lit≤}
 use Rattle.clefia_spec.specs.Words.{words_of}
 use Rattle.call_answer.specs.Answer.{Answered}
 use Rattle.call_answer.specs.Judging.{GroupPassed, group_passed}
-use Rattle.call_answer.specs.declared.Answer.{Answer}
-use Rattle.call_answer.specs.declared.Answer.TheVariants.{Accepted}
 use Rattle.planbook_spec.specs.OutcomeLaws.{AllPass}
 use Rattle.planbook_spec.specs.Checks.{words_check, words_from_bytes}
 use Rattle.planbook_laws.specs.CheckLaws.{WordsLength, forty, forty_eight, fifty_six, words_permitted}
@@ -20,7 +18,7 @@ pub record WordsPassed (words : List ℕ) (n : ℕ) : Type 0 where
   pub least : 4 ≤ n
   pub most : n ≤ 56
 
-pub words_passed : (words : List ℕ) {n : ℕ} → Accepted n ≡ words_answer words → WordsPassed words n
+pub words_passed : (words : List ℕ) {n : ℕ} → Ok n ≡ words_answer words → WordsPassed words n
 words_passed words {n} e =
     let w : GroupPassed (words_check (length words) ∷ []) (length words / 4) n =
     group_passed (words_check (length words) ∷ []) _ e in
@@ -34,9 +32,9 @@ words_passed words {n} e =
 
 -- A task done under words that were read into n places, four bytes to each, is done under the words
 -- given.
-pub answered_read : (task : Task) (words : List ℕ) (n : ℕ) {w : List ℕ} (iv src out : List ℕ) {exit : List ℕ}
-    {r : Answer} → length words ≡ 4 * n → w ≡ words_of n words
-    → Answered (under task w iv src out) out r exit
-    → Answered (under task (words_from_bytes words) iv src out) out r exit
+pub answered_read : (task : Task) (words : List ℕ) (n : ℕ) {w : List ℕ} (src out : List ℕ) {exit : List ℕ}
+    {r : Result ℕ ℕ} → length words ≡ 4 * n → w ≡ words_of n words
+    → Answered (under task w src out) out r exit
+    → Answered (under task (words_from_bytes words) src out) out r exit
 unfolding words_from_bytes
-answered_read task words n iv src out l e g = let q : length words / 4 ≡ n = omega (arith, l) in rw (q, ← e) g
+answered_read task words n src out l e g = let q : length words / 4 ≡ n = omega (arith, l) in rw (q, ← e) g

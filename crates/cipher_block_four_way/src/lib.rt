@@ -4,81 +4,53 @@
 
 ghost use Rattle.std.specs.Prelude.{◌≡◌, ◌+◌, ◌≤◌, length};
 ghost use Rattle.clefia_spec.specs.Block.{whiten, encrypt_words, decrypt_words};
-ghost use Rattle.cipher_ffunction.specs.Tables.{CipherReady};
 ghost use Rattle.cipher_network4_four_way.specs.Four.{each};
 ghost use Rattle.cipher_block_four_way.specs.FourBlocks.{decrypted_four};
 
-use cipher_block::{round_count, whiten};
+use cipher_block::{Cipher, whiten};
+use cipher_ffunction::FFunctions;
 use cipher_network4_four_way::FourStates;
 
 fn whiten_each(a: u32, b: u32, s: FourStates) -> FourStates
     ensures { result ≡ each (whiten a b) s }
 {
-    let p = s.a;
-    let q = s.b;
-    let t = s.c;
-    let u = s.d;
-    FourStates {
-        a: whiten(a, b, p),
-        b: whiten(a, b, q),
-        c: whiten(a, b, t),
-        d: whiten(a, b, u),
-    }
+    s.map(
+        |t: [u32; 4]| -> [u32; 4]
+            ensures { result ≡ whiten a b t }
+        { whiten(a, b, t) },
+    )
 }
 
-pub fn encrypt_each(
-    word_tables: &[[u32; 256]],
-    byte_tables: &[[u8; 256]],
-    expanded: &[u32],
-    s: FourStates,
-) -> FourStates
-    requires { CipherReady word_tables.now byte_tables.now expanded.now }
-    ensures { result ≡ each (encrypt_words expanded.now) s }
+pub fn encrypt_each<F: FFunctions>(cipher: Cipher<'_, F>, s: FourStates) -> FourStates
+    ensures { result ≡ each (encrypt_words cipher.entry.expanded.now) s }
 {
-    let n = round_count(expanded);
-    let t = cipher_network4_four_way::network4_each(
-        word_tables,
-        byte_tables,
-        expanded,
-        n,
+    let w = cipher.expanded;
+    let t = cipher_network4_four_way::network4_each::<F>(
+        w,
+        cipher.round_count(),
         4,
-        whiten_each(expanded[0], expanded[1], s),
+        whiten_each(w[0], w[1], s),
     );
-    whiten_each(expanded[2], expanded[3], t)
+    whiten_each(w[2], w[3], t)
 }
 
-pub fn decrypt_each(
-    word_tables: &[[u32; 256]],
-    byte_tables: &[[u8; 256]],
-    expanded: &[u32],
-    s: FourStates,
-) -> FourStates
-    requires { CipherReady word_tables.now byte_tables.now expanded.now }
-    ensures { result ≡ each (decrypt_words expanded.now) s }
+pub fn decrypt_each<F: FFunctions>(cipher: Cipher<'_, F>, s: FourStates) -> FourStates
+    ensures { result ≡ each (decrypt_words cipher.entry.expanded.now) s }
 {
-    let n = round_count(expanded);
-    let t = cipher_network4_four_way::inverse_network4_each(
-        word_tables,
-        byte_tables,
-        expanded,
-        n,
+    let w = cipher.expanded;
+    let t = cipher_network4_four_way::inverse_network4_each::<F>(
+        w,
+        cipher.round_count(),
         4,
-        whiten_each(expanded[2], expanded[3], s),
+        whiten_each(w[2], w[3], s),
     );
-    whiten_each(expanded[0], expanded[1], t)
+    whiten_each(w[0], w[1], t)
 }
 
 // The four blocks at `at` of a body, decrypted and not yet added to those before them.
-pub fn decrypt_four(
-    word_tables: &[[u32; 256]],
-    byte_tables: &[[u8; 256]],
-    expanded: &[u32],
-    body: &[u8],
-    at: usize,
-) -> FourStates
-    requires cipher_ready { CipherReady word_tables.now byte_tables.now expanded.now }
-    requires at_in_bounds { at + 64 ≤ length body.now }
-    ensures { result ≡ decrypted_four expanded.now body.now at }
+pub fn decrypt_four<F: FFunctions>(cipher: Cipher<'_, F>, body: &[u8], at: usize) -> FourStates
+    requires { at + 64 ≤ length body.now }
+    ensures { result ≡ decrypted_four cipher.entry.expanded.now body.now at }
 {
     let second = at + 16;
     let third = second + 16;
@@ -89,5 +61,5 @@ pub fn decrypt_four(
         c: cipher_bytes::load(body, third),
         d: cipher_bytes::load(body, fourth),
     };
-    decrypt_each(word_tables, byte_tables, expanded, read)
+    decrypt_each(cipher, read)
 }

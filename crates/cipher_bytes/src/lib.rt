@@ -11,7 +11,7 @@ ghost use Rattle.cipher_bytes.specs.Exchange.{Exchanged};
 pub fn join(a: u8, b: u8, c: u8, d: u8) -> u32
     ensures { result ≡ from_digits 256 (a ∷ b ∷ c ∷ d ∷ []) }
 {
-    a as u32 * 16777216 + b as u32 * 65536 + c as u32 * 256 + d as u32
+    u32::from_be_bytes([a, b, c, d])
 }
 
 // The word at `at`.
@@ -27,12 +27,7 @@ pub fn load(src: &[u8], at: usize) -> [u32; 4]
     requires { at + 16 ≤ length src.now }
     ensures { result ≡ words_of 4 (drop at src.now) }
 {
-    [
-        word(src, at),
-        word(src, at + 4),
-        word(src, at + 8),
-        word(src, at + 12),
-    ]
+    std::array::from_fn(|i| word(src, at + 4 * i))
 }
 
 // A word written at `at`.
@@ -40,10 +35,7 @@ pub fn put_word(dst: &mut [u8], at: usize, x: u32)
     requires { at + 4 ≤ length dst.old }
     ensures { dst.new ≡ put_four dst.old at (to_digits 256 4 x) }
 {
-    dst[at] = (x / 16777216 % 256) as u8;
-    dst[at + 1] = (x / 65536 % 256) as u8;
-    dst[at + 2] = (x / 256 % 256) as u8;
-    dst[at + 3] = (x % 256) as u8;
+    dst[at..at + 4].copy_from_slice(&x.to_be_bytes());
 }
 
 // Four words written into 16 bytes.
@@ -51,21 +43,18 @@ pub fn store(dst: &mut [u8], s: [u32; 4])
     requires { length dst.old ≡ 16 }
     ensures { dst.new ≡ bytes_of s }
 {
-    put_word(dst, 0, s[0]);
-    put_word(dst, 4, s[1]);
-    put_word(dst, 8, s[2]);
-    put_word(dst, 12, s[3]);
+    store_all(dst, &s);
 }
 
 pub fn xors4(a: [u32; 4], b: [u32; 4]) -> [u32; 4]
     ensures { result ≡ xors a b }
 {
-    [a[0] ^ b[0], a[1] ^ b[1], a[2] ^ b[2], a[3] ^ b[3]]
+    std::array::from_fn(|i| a[i] ^ b[i])
 }
 
 // A block written and another read, alternately: the four words s written into the 16 bytes of dst,
-// and the four at `from` of src read. Each word that is written is followed by one that is read:
-// the compiler makes one store of a word's four bytes only where no other store follows directly.
+// and the four at `from` of src read. Each word that is written is followed by one that is read,
+// since a loop over blocks was faster so (DECISIONS, "A block is written and the next one read").
 pub fn exchange(dst: &mut [u8], s: [u32; 4], src: &[u8], from: usize) -> [u32; 4]
     requires dst_len { length dst.old ≡ 16 }
     requires from_in_bounds { from + 16 ≤ length src.now }
@@ -87,10 +76,8 @@ pub fn store_all(dst: &mut [u8], src: &[u32])
     requires { length dst.old ≡ 4 * length src.now }
     ensures { dst.new ≡ bytes_of src.now }
 {
-    let mut i = 0;
-    while i < src.len() {
-        put_word(dst, 4 * i, src[i]);
-        i += 1;
+    for (i, x) in src.iter().enumerate() {
+        put_word(dst, 4 * i, *x);
     }
 }
 
@@ -99,10 +86,8 @@ pub fn load_all(dst: &mut [u32], src: &[u8])
     requires { length src.now ≡ 4 * length dst.old }
     ensures { dst.new ≡ words_of (length dst.old) src.now }
 {
-    let mut i = 0;
-    while i < dst.len() {
-        dst[i] = word(src, 4 * i);
-        i += 1;
+    for (i, x) in dst.iter_mut().enumerate() {
+        *x = word(src, 4 * i);
     }
 }
 
@@ -111,8 +96,5 @@ pub fn put_four(dst: &mut [u32], at: usize, s: [u32; 4])
     requires { at + 4 ≤ length dst.old }
     ensures { dst.new ≡ put_four dst.old at s }
 {
-    dst[at] = s[0];
-    dst[at + 1] = s[1];
-    dst[at + 2] = s[2];
-    dst[at + 3] = s[3];
+    dst[at..at + 4].copy_from_slice(&s);
 }

@@ -1,5 +1,5 @@
--- The tables that F0 and F1 may be given, by the rules, and F0 and F1 by number.
-use Rattle.std.specs.Prelude.{ℕ, zero, suc, ◌+◌, ◌-◌, ◌/◌, ◌%◌, ◌≤◌, ◌<◌, ◌≡◌, refl, List, [], ◌∷◌, length}
+-- The tables of F0 and F1 by the rules, and F0 and F1 by number.
+use Rattle.std.specs.Prelude.{ℕ, zero, suc, ◌+◌, ◌-◌, ◌/◌, ◌%◌, ◌<◌, ◌≡◌, refl, List, [], ◌∷◌, length}
 use Rattle.std.proofs.Common.{arith, lit<}
 use Rattle.clefia_spec.specs.Words.{◌⊕◌, from_digits, to_digits}
 use Rattle.clefia_spec.specs.Field.{product}
@@ -44,14 +44,13 @@ word_table t = values (column (t / 4) (t % 4)) 0 256
 unfoldable pub all_word_tables : List (List ℕ)
 all_word_tables = values word_table 0 8
 
--- The tables that a caller passes: all of a kind, or none of it. Where the word tables are passed
--- they are read (way 2), else the byte tables (way 1), and without either the rules are worked out
--- (way 3). The result is the same.
+-- Tables that are all of a kind, or none of it. (The code has the kind in a type, and nothing is
+-- passed: these theorems are for who passes tables as lists.)
 pub record ValidTables (ws bs : List (List ℕ)) : Type 0 where
   pub word_tables : length ws ≡ 8 → ws ≡ all_word_tables
   pub byte_tables : length bs ≡ 2 → bs ≡ all_byte_tables
 
--- What a call passes: the word tables alone, the byte tables alone, or none.
+-- The word tables alone, the byte tables alone, or none.
 not_empty : (n : ℕ) {A : Type 0} → 0 < n → 0 ≡ n → A
 not_empty n h e = let z : ⊥ = omega (arith, h, e) in absurd z
 
@@ -63,7 +62,3 @@ valid_byte_tables h = record { word_tables = not_empty 8 (lit< tt); byte_tables 
 
 pub valid_no_tables : ValidTables [] []
 valid_no_tables = record { word_tables = not_empty 8 (lit< tt); byte_tables = not_empty 2 (lit< tt) }
-
--- Tables and an expanded key that blocks can be encrypted and decrypted with.
-abbrev pub CipherReady : List (List ℕ) → List (List ℕ) → List ℕ → Type 0
-CipherReady ws bs w = ValidTables ws bs × (4 ≤ length w)

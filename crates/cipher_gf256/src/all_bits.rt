@@ -12,12 +12,10 @@ pub fn product(x: u8, y: u8) -> u8
     let mut sum: u8 = 0;
     let mut shifted = x;
     let mut bits = y;
-    let mut left: u8 = 8;
-    while 0 < left {
+    for _ in 0..u8::BITS {
         sum = last_bit_times(bits, shifted) ^ sum;
         shifted = double(shifted);
-        bits = bits / 2;
-        left -= 1;
+        bits /= 2;
     }
     sum
 }

@@ -46,15 +46,13 @@ pub fn product(x: u8, y: u8) -> u8
     let mut sum: u8 = 0;
     let mut shifted = x;
     let mut bits = y;
-    let mut left: u8 = 8;
-    while 0 < left {
+    for _ in 0..u8::BITS {
         sum = add_last_bit(sum, shifted, bits);
-        bits = bits / 2;
+        bits /= 2;
         if bits == 0 {
             return sum;
         }
         shifted = double(shifted);
-        left -= 1;
     }
     sum
 }

@@ -2,7 +2,7 @@
 
 #![tactic(auto)]
 
-ghost use Rattle.std.specs.Prelude.{◌≡◌, [], ◌∷◌, ◌++◌, ◌+◌, ◌*◌, ◌%◌, ◌≤◌, length, get_or, take, ltb};
+ghost use Rattle.std.specs.Prelude.{◌≡◌, ◌++◌, ◌+◌, ◌*◌, ◌%◌, ◌≤◌, length, take, ltb};
 ghost use Rattle.clefia_spec.specs.Words.{four_at};
 ghost use Rattle.clefia_spec.specs.KeySchedule.{double_swap, step_keys, round_keys};
 ghost use Rattle.cipher_bytes.specs.ListLaws.{put_four};
@@ -22,15 +22,9 @@ fn double_swap(x: [u32; 4]) -> [u32; 4]
 
 fn four_at(expanded: &[u32], at: usize) -> [u32; 4]
     requires { at + 4 ≤ length expanded.now }
-    ensures { result ≡ (get_or expanded.now at 0 ∷ get_or expanded.now (at + 1) 0
-        ∷ get_or expanded.now (at + 2) 0 ∷ get_or expanded.now (at + 3) 0 ∷ []) }
+    ensures { result ≡ four_at expanded.now at }
 {
-    [
-        expanded[at],
-        expanded[at + 1],
-        expanded[at + 2],
-        expanded[at + 3],
-    ]
+    std::array::from_fn(|i| expanded[at + i])
 }
 
 // The four round keys of step i, with the constants at `at`.
@@ -45,23 +39,16 @@ fn step_keys(i: usize, con: &[u32], at: usize, k: [u32; 4], l: [u32; 4]) -> [u32
     m
 }
 
-// Step i: its round keys written after the first four words and those of the steps before, and the
-// l that follows.
-fn step(
-    i: usize,
-    base: usize,
-    con: &[u32],
-    k: [u32; 4],
-    l: [u32; 4],
-    expanded: &mut [u32],
-) -> [u32; 4]
+// Step i: its round keys written after the first four words and those of the steps before, and l
+// moved on to what follows it.
+fn step(i: usize, base: usize, con: &[u32], k: [u32; 4], l: &mut [u32; 4], expanded: &mut [u32])
     requires { (base + 4 * i + 4 ≤ length con.now) × (4 + 4 * i + 4 ≤ length expanded.old) }
-    ensures value { result ≡ double_swap l }
+    ensures l_after { l.new ≡ double_swap l.old }
     ensures expanded_after { expanded.new ≡ put_four expanded.old (4 + 4 * i)
-        (step_keys i (four_at con.now (base + 4 * i)) k l) }
+        (step_keys i (four_at con.now (base + 4 * i)) k l.old) }
 {
-    cipher_bytes::put_four(expanded, 4 + 4 * i, step_keys(i, con, base + 4 * i, k, l));
-    double_swap(l)
+    cipher_bytes::put_four(expanded, 4 + 4 * i, step_keys(i, con, base + 4 * i, k, *l));
+    *l = double_swap(*l);
 }
 
 // Whether step i uses the first of two pairs that alternate; with a period of 2 every step does. (A
@@ -70,10 +57,7 @@ fn uses_first(i: usize, period: usize) -> bool
     requires { Period period }
     ensures { result ≡ ltb (i % period) 2 }
 {
-    if period == 2 {
-        return true;
-    }
-    i % 4 < 2
+    period == 2 || i % 4 < 2
 }
 
 // The round keys of n steps, written after the first four words. A step that uses the first pair
@@ -97,16 +81,11 @@ pub fn round_keys(
 {
     let mut a = l;
     let mut b = l2;
-    let mut i = 0;
-    while i < n {
+    for i in 0..n {
         if uses_first(i, period) {
-            let next = step(i, base, con, k, a, expanded);
-            a = next;
-            i += 1;
+            step(i, base, con, k, &mut a, expanded);
         } else {
-            let next = step(i, base, con, k2, b, expanded);
-            b = next;
-            i += 1;
+            step(i, base, con, k2, &mut b, expanded);
         }
     }
 }

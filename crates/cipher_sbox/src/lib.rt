@@ -1,25 +1,27 @@
-// S0 and S1: by the given byte tables, and worked out from the rules.
+// S0 and S1, the two substitutions of a byte, and what works them out: byte tables, which the crate
+// cipher_tables has, or the rules.
 
 #![tactic(auto)]
 
 pub mod rules;
 
 ghost use Rattle.std.specs.Prelude.{◌≡◌, ◌<◌};
-ghost use Rattle.cipher_sbox.specs.Boxes.{box, all_byte_tables};
+ghost use Rattle.cipher_sbox.specs.Boxes.{box};
 
-// Box i of a byte, read from the given table.
-pub fn by_table(byte_tables: &[[u8; 256]], i: usize, x: u8) -> u8
-    requires i_bound { i < 2 }
-    requires byte_tables_value { byte_tables.now ≡ all_byte_tables }
-    ensures { result ≡ box i x }
-{
-    byte_tables[i][x as usize]
+// What works out the boxes. It is a type and no value: code is made for each, with nothing to
+// choose in a round.
+pub trait Boxes {
+    // Box i of a byte: S0 is number 0, S1 number 1.
+    fn substitute(i: usize, x: u8) -> u8
+        requires { i < 2 }
+        ensures { result ≡ box i x };
 }
 
-// Box i of a byte, worked out from the rules.
-pub fn by_rule(i: usize, x: u8) -> u8
-    requires { i < 2 }
-    ensures { result ≡ box i x }
-{
-    if i == 0 { rules::s0(x) } else { rules::s1(x) }
+// The boxes worked out from the rules.
+pub struct ByRules;
+
+impl Boxes for ByRules {
+    fn substitute(i: usize, x: u8) -> u8 {
+        if i == 0 { rules::s0(x) } else { rules::s1(x) }
+    }
 }

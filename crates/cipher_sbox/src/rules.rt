@@ -59,11 +59,9 @@ fn linear(columns: [u8; 8], x: u8) -> u8
 {
     let mut sum: u8 = 0;
     let mut bits = x;
-    let mut i: usize = 0;
-    while i < 8 {
-        sum = last_bit_times(bits, columns[i]) ^ sum;
-        bits = bits / 2;
-        i += 1;
+    for column in columns {
+        sum = last_bit_times(bits, column) ^ sum;
+        bits /= 2;
     }
     sum
 }

@@ -1,9 +1,10 @@
-// The byte tables of S0 and S1, for way 1. Each table has a function that returns it whole: a
-// constant that is read in place is copied at each read.
-ghost use Rattle.std.specs.Prelude.{◌≡◌};
-ghost use Rattle.cipher_sbox.specs.Boxes.{byte_table, all_byte_tables};
+// The byte tables of S0 and S1, for way 1. They are statics, which are read in place.
+ghost use Rattle.std.specs.Prelude.{◌≡◌, [], ◌<◌, get_or};
+ghost use Rattle.cipher_sbox.specs.Boxes.{all_byte_tables};
 
-const S0: [u8; 256] = [
+use cipher_sbox::Boxes;
+
+static S0: [u8; 256] = [
     0x57, // S0 of 00
     0x49, 0xd1, 0xc6, 0x2f, 0x33, 0x74, 0xfb, 0x95, 0x6d, 0x82, 0xea, 0x0e, 0xb0, 0xa8, 0x1c, 0x28,
     0xd0, 0x4b, 0x92, 0x5c, 0xee, 0x85, 0xb1, 0xc4, 0x0a, 0x76, 0x3d, 0x63, 0xf9, 0x17, 0xaf, 0xbf,
@@ -23,7 +24,7 @@ const S0: [u8; 256] = [
     0x36, 0xe5, 0x29, 0xc3, 0x4f, 0xab, 0x64, 0x51, 0xf8, 0x10, 0xd7, 0xbc, 0x02, 0x7d, 0x8e,
 ];
 
-const S1: [u8; 256] = [
+static S1: [u8; 256] = [
     0x6c, // S1 of 00
     0xda, 0xc3, 0xe9, 0x4e, 0x9d, 0x0a, 0x3d, 0xb8, 0x36, 0xb4, 0x38, 0x13, 0x34, 0x0c, 0xd9, 0xbf,
     0x74, 0x94, 0x8f, 0xb7, 0x9c, 0xe5, 0xdc, 0x9e, 0x07, 0x49, 0x4f, 0x98, 0x2c, 0xb0, 0x93, 0x12,
@@ -43,21 +44,19 @@ const S1: [u8; 256] = [
     0xe4, 0x79, 0x96, 0xa2, 0xfc, 0x6d, 0xb2, 0x6b, 0x03, 0xe1, 0x2e, 0x7d, 0x14, 0x95, 0x1d,
 ];
 
-fn table0() -> [u8; 256]
-    ensures { result ≡ byte_table 0 }
+// Table i.
+fn table(i: usize) -> &'static [u8; 256]
+    requires { i < 2 }
+    ensures { result.now ≡ get_or all_byte_tables i [] }
 {
-    S0
+    if i == 0 { &S0 } else { &S1 }
 }
 
-fn table1() -> [u8; 256]
-    ensures { result ≡ byte_table 1 }
-{
-    S1
-}
+// The boxes read from the tables.
+pub struct ByTables;
 
-// Both tables, to be passed on.
-pub fn byte_tables() -> [[u8; 256]; 2]
-    ensures { result ≡ all_byte_tables }
-{
-    [table0(), table1()]
+impl Boxes for ByTables {
+    fn substitute(i: usize, x: u8) -> u8 {
+        table(i)[x as usize]
+    }
 }

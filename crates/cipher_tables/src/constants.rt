@@ -1,9 +1,9 @@
-// The constants of the key schedule, one list for each key length in bytes. Each list is fetched
-// whole: a constant that is read in place is copied to the stack at every read.
+// The constants of the key schedule, one list for each key length in bytes. They are statics, which
+// are read in place.
 ghost use Rattle.std.specs.Prelude.{◌≡◌};
 ghost use Rattle.clefia_spec.specs.Constants.{constants};
 
-const SIXTEEN: [u32; 60] = [
+static SIXTEEN: [u32; 60] = [
     0xf56b7aeb, 0x994a8a42, 0x96a4bd75, 0xfa854521, 0x735b768a, 0x1f7abac4, 0xd5bc3b45, 0xb99d5d62,
     0x52d73592, 0x3ef636e5, 0xc57a1ac9, 0xa95b9b72, 0x5ab42554, 0x369555ed, 0x1553ba9a, 0x7972b2a2,
     0xe6b85d4d, 0x8a995951, 0x4b550696, 0x2774b4fc, 0xc9bb034b, 0xa59a5a7e, 0x88cc81a5, 0xe4ed2d3f,
@@ -14,7 +14,7 @@ const SIXTEEN: [u32; 60] = [
     0x50b63150, 0x3c9757e7, 0x1052b098, 0x7c73b3a7,
 ];
 
-const TWENTY_FOUR: [u32; 84] = [
+static TWENTY_FOUR: [u32; 84] = [
     0xc6d61d91, 0xaaf73771, 0x5b6226f8, 0x374383ec, 0x15b8bb4c, 0x799959a2, 0x32d5f596, 0x5ef43485,
     0xf57b7acb, 0x995a9a42, 0x96acbd65, 0xfa8d4d21, 0x735f7682, 0x1f7ebec4, 0xd5be3b41, 0xb99f5f62,
     0x52d63590, 0x3ef737e5, 0x1162b2f8, 0x7d4383a6, 0x30b8f14c, 0x5c995987, 0x2055d096, 0x4c74b497,
@@ -28,7 +28,7 @@ const TWENTY_FOUR: [u32; 84] = [
     0x0cb0895c, 0x609151bb, 0x3e51ec9e, 0x5270b089,
 ];
 
-const THIRTY_TWO: [u32; 92] = [
+static THIRTY_TWO: [u32; 92] = [
     0x0221947e, 0x6e00c0b5, 0xed014a3f, 0x8120e05a, 0x9a91a51f, 0xf6b0702d, 0xa159d28f, 0xcd78b816,
     0xbcbde947, 0xd09c5c0b, 0xb24ff4a3, 0xde6eae05, 0xb536fa51, 0xd917d702, 0x62925518, 0x0eb373d5,
     0x094082bc, 0x6561a1be, 0x3ca9e96e, 0x5088488b, 0xf24574b7, 0x9e64a445, 0x9533ba5b, 0xf912d222,
@@ -43,20 +43,20 @@ const THIRTY_TWO: [u32; 92] = [
     0x798c6324, 0x15ad6dce, 0x04cf99a2, 0x68ee2eb3,
 ];
 
-pub fn sixteen() -> [u32; 60]
-    ensures { result ≡ constants 16 }
+pub fn sixteen() -> &'static [u32; 60]
+    ensures { result.now ≡ constants 16 }
 {
-    SIXTEEN
+    &SIXTEEN
 }
 
-pub fn twenty_four() -> [u32; 84]
-    ensures { result ≡ constants 24 }
+pub fn twenty_four() -> &'static [u32; 84]
+    ensures { result.now ≡ constants 24 }
 {
-    TWENTY_FOUR
+    &TWENTY_FOUR
 }
 
-pub fn thirty_two() -> [u32; 92]
-    ensures { result ≡ constants 32 }
+pub fn thirty_two() -> &'static [u32; 92]
+    ensures { result.now ≡ constants 32 }
 {
-    THIRTY_TWO
+    &THIRTY_TWO
 }

@@ -1,12 +1,16 @@
-// The eight word tables, for way 2: four columns of M0, then four of M1. Each table has a function
-// that returns it whole: a constant that is read in place is copied at each read.
+// F0 and F1 by word tables, for way 2: S-box and matrix column together, one entry for each byte of
+// a word. There are four tables for the columns of M0, and then four for those of M1. They are
+// statics, which are read in place.
 
 #![tactic(auto)]
 
-ghost use Rattle.std.specs.Prelude.{◌≡◌};
-ghost use Rattle.cipher_ffunction.specs.Tables.{word_table, all_word_tables};
+ghost use Rattle.std.specs.Prelude.{◌≡◌, [], ◌<◌, get_or};
+ghost use Rattle.clefia_spec.specs.Words.{◌⊕◌};
+ghost use Rattle.cipher_ffunction.specs.Tables.{mix, column, all_word_tables};
 
-const COLUMN00: [u32; 256] = [
+use cipher_ffunction::FFunctions;
+
+static COLUMN00: [u32; 256] = [
     0x57ae41ef, 0x499239ab, 0xd1bf63dc, 0xc6913fae, 0x2f5ebce2, 0x3366ccaa, 0x74e8cd25, 0xfbebcb20,
     0x95376e59, 0x6ddaa973, 0x8219322b, 0xeac98f46, 0x0e1c3824, 0xb07dfa87, 0xa84d9ad7, 0x1c387048,
     0x2850a0f0, 0xd0bd67da, 0x4b9631a7, 0x9239724b, 0x5cb86dd5, 0xeec19f5e, 0x85172e39, 0xb17ffe81,
@@ -41,7 +45,7 @@ const COLUMN00: [u32; 256] = [
     0x51a259fb, 0xf8edc72a, 0x10204060, 0xd7b37bc8, 0xbc65caaf, 0x0204080c, 0x7dfae913, 0x8e010203,
 ];
 
-const COLUMN01: [u32; 256] = [
+static COLUMN01: [u32; 256] = [
     0xd86c75ad, 0xa9dae64f, 0x9bc3b02b, 0xcfe94c83, 0x9c4eb925, 0x279d694e, 0x140a3c28, 0x7a3d8ef4,
     0x6db8b7da, 0x6c36b4d8, 0x75b49fea, 0x703890e0, 0x26136a4c, 0x6834b8d0, 0x180c2830, 0xafd9ec43,
     0x63bfa5c6, 0xe87425cd, 0x35945f6a, 0x038f0506, 0x73b795e6, 0x259c6f4a, 0xd7e564b3, 0xa5dcf257,
@@ -76,7 +80,7 @@ const COLUMN01: [u32; 256] = [
     0xd66b67b1, 0x06030a0c, 0xdfe17ca3, 0x5c2ee4b8, 0xfa7d13e9, 0x28147850, 0x3795596e, 0x3a1d4e74,
 ];
 
-const COLUMN02: [u32; 256] = [
+static COLUMN02: [u32; 256] = [
     0x41ef57ae, 0x39ab4992, 0x63dcd1bf, 0x3faec691, 0xbce22f5e, 0xccaa3366, 0xcd2574e8, 0xcb20fbeb,
     0x6e599537, 0xa9736dda, 0x322b8219, 0x8f46eac9, 0x38240e1c, 0xfa87b07d, 0x9ad7a84d, 0x70481c38,
     0xa0f02850, 0x67dad0bd, 0x31a74b96, 0x724b9239, 0x6dd55cb8, 0x9f5eeec1, 0x2e398517, 0xfe81b17f,
@@ -111,7 +115,7 @@ const COLUMN02: [u32; 256] = [
     0x59fb51a2, 0xc72af8ed, 0x40601020, 0x7bc8d7b3, 0xcaafbc65, 0x080c0204, 0xe9137dfa, 0x02038e01,
 ];
 
-const COLUMN03: [u32; 256] = [
+static COLUMN03: [u32; 256] = [
     0x75add86c, 0xe64fa9da, 0xb02b9bc3, 0x4c83cfe9, 0xb9259c4e, 0x694e279d, 0x3c28140a, 0x8ef47a3d,
     0xb7da6db8, 0xb4d86c36, 0x9fea75b4, 0x90e07038, 0x6a4c2613, 0xb8d06834, 0x2830180c, 0xec43afd9,
     0xa5c663bf, 0x25cde874, 0x5f6a3594, 0x0506038f, 0x95e673b7, 0x6f4a259c, 0x64b3d7e5, 0xf257a5dc,
@@ -146,7 +150,7 @@ const COLUMN03: [u32; 256] = [
     0x67b1d66b, 0x0a0c0603, 0x7ca3dfe1, 0xe4b85c2e, 0x13e9fa7d, 0x78502814, 0x596e3795, 0x4e743a1d,
 ];
 
-const COLUMN10: [u32; 256] = [
+static COLUMN10: [u32; 256] = [
     0x6c47d89f, 0xda9ea937, 0xc3569bcd, 0xe91bcfd4, 0x4e4a9cd6, 0x9d9c27bb, 0x0a501444, 0x3df57a8f,
     0xb8a96dc4, 0x36ad6cc1, 0xb4c975bc, 0x38dd70ad, 0x139826be, 0x34bd68d5, 0x0c601878, 0xd986af29,
     0xbf9163f2, 0x7487e86f, 0x94d435e1, 0x8f0c030f, 0xb7d173a2, 0x9c9425b1, 0xe57bd7ac, 0xdcaea50b,
@@ -181,7 +185,7 @@ const COLUMN10: [u32; 256] = [
     0x6b7fd6a9, 0x0318061e, 0xe15bdf84, 0x2e6d5c31, 0x7dcffa35, 0x14a02888, 0x95dc37eb, 0x1de83ad2,
 ];
 
-const COLUMN11: [u32; 256] = [
+static COLUMN11: [u32; 256] = [
     0x82572cae, 0x7249e092, 0xc6d179bf, 0x7ec6ef91, 0x652f3b5e, 0x8533e366, 0x87746fe8, 0x8bfb60eb,
     0xdc95eb37, 0x4f6d95da, 0x64827d19, 0x03eacac9, 0x700e6c1c, 0xe9b0947d, 0x29a8644d, 0xe01cd838,
     0x5d280d50, 0xced073bd, 0x624bf496, 0xe492dd39, 0xda5c62b8, 0x23eee2c1, 0x5c854b17, 0xe1b19e7f,
@@ -216,7 +220,7 @@ const COLUMN11: [u32; 256] = [
     0xb25110a2, 0x93f87eed, 0x8010a020, 0xf6d745b3, 0x89bcec65, 0x10021404, 0xcf7d35fa, 0x048e0501,
 ];
 
-const COLUMN12: [u32; 256] = [
+static COLUMN12: [u32; 256] = [
     0xd89f6c47, 0xa937da9e, 0x9bcdc356, 0xcfd4e91b, 0x9cd64e4a, 0x27bb9d9c, 0x14440a50, 0x7a8f3df5,
     0x6dc4b8a9, 0x6cc136ad, 0x75bcb4c9, 0x70ad38dd, 0x26be1398, 0x68d534bd, 0x18780c60, 0xaf29d986,
     0x63f2bf91, 0xe86f7487, 0x35e194d4, 0x030f8f0c, 0x73a2b7d1, 0x25b19c94, 0xd7ace57b, 0xa50bdcae,
@@ -251,7 +255,7 @@ const COLUMN12: [u32; 256] = [
     0xd6a96b7f, 0x061e0318, 0xdf84e15b, 0x5c312e6d, 0xfa357dcf, 0x288814a0, 0x37eb95dc, 0x3ad21de8,
 ];
 
-const COLUMN13: [u32; 256] = [
+static COLUMN13: [u32; 256] = [
     0x2cae8257, 0xe0927249, 0x79bfc6d1, 0xef917ec6, 0x3b5e652f, 0xe3668533, 0x6fe88774, 0x60eb8bfb,
     0xeb37dc95, 0x95da4f6d, 0x7d196482, 0xcac903ea, 0x6c1c700e, 0x947de9b0, 0x644d29a8, 0xd838e01c,
     0x0d505d28, 0x73bdced0, 0xf496624b, 0xdd39e492, 0x62b8da5c, 0xe2c123ee, 0x4b175c85, 0x9e7fe1b1,
@@ -286,66 +290,54 @@ const COLUMN13: [u32; 256] = [
     0x10a2b251, 0x7eed93f8, 0xa0208010, 0x45b3f6d7, 0xec6589bc, 0x14041002, 0x35facf7d, 0x0501048e,
 ];
 
-fn column00() -> [u32; 256]
-    ensures { result ≡ word_table 0 }
+// Table t.
+fn table(t: usize) -> &'static [u32; 256]
+    requires { t < 8 }
+    ensures { result.now ≡ get_or all_word_tables t [] }
 {
-    COLUMN00
+    match t {
+        0 => &COLUMN00,
+        1 => &COLUMN01,
+        2 => &COLUMN02,
+        3 => &COLUMN03,
+        4 => &COLUMN10,
+        5 => &COLUMN11,
+        6 => &COLUMN12,
+        _ => &COLUMN13,
+    }
 }
 
-fn column01() -> [u32; 256]
-    ensures { result ≡ word_table 1 }
+// Entry x of the table for column j of M0 (f is 0) or M1 (f is 1).
+fn column(f: usize, j: usize, x: usize) -> u32
+    requires { (f < 2) × (j < 4) × (x < 256) }
+    ensures { result ≡ column f j x }
 {
-    COLUMN01
+    table(4 * f + j)[x]
 }
 
-fn column02() -> [u32; 256]
-    ensures { result ≡ word_table 2 }
+// F0 (f is 0) or F1 (f is 1) after the round key is added, added to y.
+fn mix(f: usize, z: u32, y: u32) -> u32
+    requires { f < 2 }
+    ensures { result ≡ y ⊕ mix f z }
 {
-    COLUMN02
+    y ^ column(f, 3, (z % 256) as usize)
+        ^ column(f, 2, (z / 256 % 256) as usize)
+        ^ column(f, 0, (z / 16777216 % 256) as usize)
+        ^ column(f, 1, (z / 65536 % 256) as usize)
 }
 
-fn column03() -> [u32; 256]
-    ensures { result ≡ word_table 3 }
-{
-    COLUMN03
-}
+pub struct ByWordTables;
 
-fn column10() -> [u32; 256]
-    ensures { result ≡ word_table 4 }
-{
-    COLUMN10
-}
+impl FFunctions for ByWordTables {
+    fn f0(k: u32, x: u32, y: u32) -> u32 {
+        mix(0, k ^ x, y)
+    }
 
-fn column11() -> [u32; 256]
-    ensures { result ≡ word_table 5 }
-{
-    COLUMN11
-}
+    fn f1(k: u32, x: u32, y: u32) -> u32 {
+        mix(1, k ^ x, y)
+    }
 
-fn column12() -> [u32; 256]
-    ensures { result ≡ word_table 6 }
-{
-    COLUMN12
-}
-
-fn column13() -> [u32; 256]
-    ensures { result ≡ word_table 7 }
-{
-    COLUMN13
-}
-
-// All eight, to be passed on.
-pub fn all() -> [[u32; 256]; 8]
-    ensures { result ≡ all_word_tables }
-{
-    [
-        column00(),
-        column01(),
-        column02(),
-        column03(),
-        column10(),
-        column11(),
-        column12(),
-        column13(),
-    ]
+    fn waits() -> bool {
+        true
+    }
 }

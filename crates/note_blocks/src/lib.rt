@@ -6,9 +6,10 @@
 ghost use Rattle.std.specs.Prelude.{◌≡◌, ◌+◌, ◌-◌, ◌≤◌, length, drop};
 ghost use borrow.Rule.Slice.PartMut.{put_mid};
 ghost use Rattle.clefia_spec.specs.Words.{bytes_of, words_of, xors};
-ghost use Rattle.cipher_ffunction.specs.Tables.{CipherReady};
 ghost use Rattle.note_blocks.specs.Counter.{counter_state, encrypted_four};
 
+use cipher_block::Cipher;
+use cipher_ffunction::FFunctions;
 use cipher_network4_four_way::FourStates;
 
 // Counter block i of a note as four words. The last one counts, and goes on at zero after its
@@ -50,24 +51,15 @@ pub fn add_part(s: [u32; 4], part: &[u8], out: &mut [u8])
 {
     let mut bytes = [0u8; 16];
     cipher_bytes::store(&mut bytes, s);
-    let mut i = 0;
-    while i < part.len() {
-        out[i] = bytes[i] ^ part[i];
-        i += 1;
+    for (i, byte) in out.iter_mut().enumerate() {
+        *byte = bytes[i] ^ part[i];
     }
 }
 
 // The four counter blocks from block i on, encrypted.
-pub fn encrypt_four(
-    word_tables: &[[u32; 256]],
-    byte_tables: &[[u8; 256]],
-    expanded: &[u32],
-    counter: [u32; 4],
-    i: u32,
-) -> FourStates
-    requires cipher_ready { CipherReady word_tables.now byte_tables.now expanded.now }
-    requires i_bound { i ≤ 1020 }
-    ensures { result ≡ encrypted_four expanded.now counter i }
+pub fn encrypt_four<F: FFunctions>(cipher: Cipher<'_, F>, counter: [u32; 4], i: u32) -> FourStates
+    requires { i ≤ 1020 }
+    ensures { result ≡ encrypted_four cipher.entry.expanded.now counter i }
 {
     let blocks = FourStates {
         a: counter_state(counter, i),
@@ -75,5 +67,5 @@ pub fn encrypt_four(
         c: counter_state(counter, i + 2),
         d: counter_state(counter, i + 3),
     };
-    cipher_block_four_way::encrypt_each(word_tables, byte_tables, expanded, blocks)
+    cipher_block_four_way::encrypt_each(cipher, blocks)
 }

@@ -12,10 +12,8 @@ use Rattle.planbook_spec.specs.Note.{ctr}
 use Rattle.planbook_laws.specs.NoteLaws.{length_ctr}
 use Rattle.note_blocks.specs.Counter.{counter_state, counter_encrypted, crypted_note_part, crypted_note_block}
 
--- What is given to write a note under an expanded key w, from the counter block of the state s.
-pub record NoteReady (w s note out : List ℕ) : Type 0 where
-  pub words : 4 ≤ length w
-  pub state : Words 4 s
+-- What is given to write a note: it is not too long, and the output has its length.
+pub record NoteReady (note out : List ℕ) : Type 0 where
   pub short : length note ≤ 16384
   pub room : length out ≡ length note
 
@@ -58,15 +56,9 @@ pub note_filled_all : (w s note : List ℕ) {at : ℕ} {out : List ℕ} → Note
 note_filled_all w s note {at} f h = note_filled_end at f (omega (arith, length_ctr (encrypt_under w) (bytes_of s) note))
 
 -- An output that is filled in part can be passed again.
-pub note_ready_again : (w s note : List ℕ) {at : ℕ} {out exit : List ℕ} → NoteReady w s note out
-    → NoteFilled at (crypted_note w s note) exit → NoteReady w s note exit
-note_ready_again w s note r f = record {
-  words = r.words;
-  state = r.state;
-  short = r.short;
-  room =
-      note_filled_size w s note f;
-}
+pub note_ready_again : (w s note : List ℕ) {at : ℕ} {out exit : List ℕ} → NoteReady note out
+    → NoteFilled at (crypted_note w s note) exit → NoteReady note exit
+note_ready_again w s note r f = record { short = r.short; room = note_filled_size w s note f }
 
 module _ {w s note : List ℕ} (words : Below (2 ^ 32) w) (state : Words 4 s) (below : Below 256 note) where
   -- Block i is written at `at`: t is the encrypted counter block.

@@ -4,17 +4,9 @@
 // a page that could not be written whole is reported on standard error.
 #![tactic(auto)]
 
-ghost use Rattle.std.specs.Prelude.{◌≤◌};
-
 use planbook::planbook_page;
-use test_script::outputs::within;
-use test_script::script::read_full;
-
-fn join(a: u8, b: u8) -> usize
-    ensures { result ≤ 65535 }
-{
-    a as usize * 256 + b as usize
-}
+use test_script::cut::first_mut;
+use test_script::input::read_full;
 
 // How long the page is: a heading, and a line for each record that the first entry of the contents
 // counts. Where that entry is not there, the book is refused, whatever is passed.
@@ -22,23 +14,17 @@ fn page_length(book: &[u8]) -> usize {
     if book.len() < 28 {
         return 0;
     }
-    32 * (join(book[8], book[9]) + 1)
+    let records = u16::from_be_bytes([book[8], book[9]]);
+    32 * (usize::from(records) + 1)
 }
 
 fn print_page(rt: &(impl Print + Eprint), book: &[u8], page: &mut [u8]) {
     let answer = planbook_page(book, 0, page);
     // From 2 ^ 32 on it is the number of a check.
-    if answer < 4294967296 {
-        if rt.write_all(page).is_err() {
-            // Where standard error cannot be written either, there is nowhere left to say so.
-            let _ = rt.eprintln("page: not all of the page could be written");
-        }
+    if answer < 0x1_0000_0000 && rt.write_all(page).is_err() {
+        // Where standard error cannot be written either, there is nowhere left to say so.
+        let _ = eprintln!(rt; "page: not all of the page could be written");
     }
-}
-
-fn print_within(rt: &(impl Print + Eprint), book: &[u8], space: &mut [u8]) {
-    let n = within(page_length(book), space);
-    print_page(rt, book, &mut space[..n]);
 }
 
 fn main(rt: HostRuntime) {
@@ -46,6 +32,8 @@ fn main(rt: HostRuntime) {
     // length.
     let mut space = [0u8; 65533];
     let n = read_full(&mut rt.reader(), &mut space);
+    let book = &space[..n];
     // The longest page has a heading and 1,024 records.
-    print_within(&rt, &space[..n], &mut [0u8; 32800]);
+    let mut page = [0u8; 32800];
+    print_page(&rt, book, first_mut(&mut page, page_length(book)));
 }

@@ -1,6 +1,6 @@
 -- The sheet that a page shows, where code finds it in the book, and the call's answer by each way
 -- out.
-use Rattle.std.specs.Prelude.{ℕ, ◌+◌, ◌-◌, ◌*◌, ◌/◌, ◌<◌, ◌≡◌, length, take, drop}
+use Rattle.std.specs.Prelude.{ℕ, ◌+◌, ◌-◌, ◌*◌, ◌/◌, ◌<◌, ◌≡◌, length, take, drop, Ok, Err}
 use mathlib.Core.List.{List, [], ◌∷◌, ◌++◌}
 use Rattle.std.proofs.Common.{sym, ap, ◌∙◌, arith, eq-eqb, ne_eqb, drop-drop}
 use Rattle.planbook_spec.specs.Outcome.{accepted, judged}
@@ -10,7 +10,6 @@ use Rattle.planbook_spec.specs.Book.{pieces, count, sheet_count, bodies, record_
 use Rattle.planbook_spec.specs.Page.{heading, lines, page, line_count}
 use Rattle.planbook_laws.specs.BookLaws.{Formed}
 use Rattle.planbook_laws.specs.SheetLaws.{length_sheet_body}
-use Rattle.call_answer.specs.declared.Answer.TheVariants.{Accepted, Refused}
 use Rattle.call_answer.specs.Answer.{Answered}
 use Rattle.call_answer.specs.Judging.{answered_refused, answered_accepted}
 use Rattle.book_sheets.specs.declared.Cursor.{Cursor}
@@ -40,7 +39,7 @@ module _ {book : List ℕ} (i : ℕ) (f : Formed book) (there : i < sheet_count 
   pub wrong_length : (out : List ℕ) → (length out ≡ 32 * ((n.at - c.at) / 16 + 1) → ⊥)
       → Answered (judged (output_check (32 * line_count i book) out ∷ []) (accepted (line_count i book)
       (page i book))) out
-      (Refused 4) out
+      (Err 4) out
   unfolding output_check
   wrong_length out h = answered_refused out (judged_false (ne_eqb _ _ (rw records_between at h)) 4 [] _)
 
@@ -48,7 +47,7 @@ module _ {book : List ℕ} (i : ℕ) (f : Formed book) (there : i < sheet_count 
       → exit ≡ heading ++ lines (pieces 16 ((n.at - c.at) / 16) (take (n.at - c.at) (drop c.at book)))
       → Answered (judged (output_check (32 * line_count i book) out ∷ []) (accepted (line_count i book)
       (page i book))) out
-      (Accepted ((n.at - c.at) / 16 + 1)) exit
+      (Ok ((n.at - c.at) / 16 + 1)) exit
   unfolding output_check page
   page_written out h e =
       rw records_between

@@ -8,16 +8,19 @@ ghost use Rattle.planbook_spec.specs.Book.{pieces};
 ghost use Rattle.planbook_spec.specs.Page.{number_field, heading, line, lines};
 ghost use Rattle.page_text.specs.Digits.{shown_digit};
 
-use book_format::u16_at;
+use book_format::{RECORD_BYTES, u16_at};
+
+const LINE_BYTES: usize = 32;
 
 // The last digit of a number, or a space where no digit is left.
 fn digit(rest: usize) -> u8
     ensures { result ≡ shown_digit rest }
 {
     if rest == 0 {
-        return b' ';
+        b' '
+    } else {
+        b'0' + (rest % 10) as u8
     }
-    b'0' + (rest % 10) as u8
 }
 
 // A number that fills all of its field, from the last digit on.
@@ -25,20 +28,13 @@ fn write_number(out: &mut [u8], n: usize)
     requires { 0 < length out.old }
     ensures { out.new ≡ number_field (length out.old) n }
 {
-    let mut i = out.len() - 1;
+    let last = out.len() - 1;
+    out[last] = b'0' + (n % 10) as u8;
     let mut rest = n / 10;
-    out[i] = b'0' + (n % 10) as u8;
-    while 0 < i {
-        i -= 1;
+    for i in (0..last).rev() {
         out[i] = digit(rest);
         rest /= 10;
     }
-}
-
-fn wide(byte: u8) -> usize
-    ensures { result ≡ byte }
-{
-    byte as usize
 }
 
 // A field of some width at a place of a line, and the character after it.
@@ -59,7 +55,7 @@ fn write_line(record: &[u8], out: &mut [u8])
 {
     put_field(out, 0, 10, cipher_bytes::word(record, 0) as usize, b' ');
     put_field(out, 11, 10, cipher_bytes::word(record, 4) as usize, b' ');
-    put_field(out, 22, 1, wide(record[8]), b' ');
+    put_field(out, 22, 1, usize::from(record[8]), b' ');
     put_field(out, 24, 3, u16_at(record, 9), b' ');
     put_field(out, 28, 3, u16_at(record, 11), b'\n');
 }
@@ -68,12 +64,7 @@ fn write_heading(out: &mut [u8])
     requires { 32 ≤ length out.old }
     ensures { take 32 out.new ≡ heading }
 {
-    let text: &[u8] = b"     TRIAL      ENTRY R ROW COL\n";
-    let mut i = 0;
-    while i < 32 {
-        out[i] = text[i];
-        i += 1;
-    }
+    out[..LINE_BYTES].copy_from_slice(b"     TRIAL      ENTRY R ROW COL\n");
 }
 
 // The heading, and the lines of the records that a body has.
@@ -82,15 +73,9 @@ pub fn write_page(body: &[u8], count: usize, out: &mut [u8])
     ensures { out.new ≡ heading ++ lines (pieces 16 count body.now) }
 {
     write_heading(out);
-    let mut at = 0;
-    let mut to = 32;
-    let mut left = count;
-    while 0 < left {
-        let end = at + book_format::RECORD_BYTES;
-        let next = to + 32;
-        write_line(&body[at..end], &mut out[to..next]);
-        at = end;
-        to = next;
-        left -= 1;
+    for i in 0..count {
+        let at = RECORD_BYTES * i;
+        let to = LINE_BYTES * (i + 1);
+        write_line(&body[at..at + RECORD_BYTES], &mut out[to..to + LINE_BYTES]);
     }
 }

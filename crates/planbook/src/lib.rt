@@ -15,7 +15,7 @@ use call_tasks::Task;
 pub extern "C" fn planbook_constants(key_length: u64, out: &mut [u8]) -> u64
     ensures { Answers (constants_call key_length out.old) out.old result out.new }
 {
-    call_answer::number(call_constants::constants(key_length, out))
+    call_answer::answer_number(call_constants::constants(key_length, out))
 }
 
 #[unsafe(no_mangle)]
@@ -23,7 +23,7 @@ pub extern "C" fn planbook_expand_key(key: &[u8], way: u64, out: &mut [u8]) -> u
     ensures { Answers (expand_key_call key.now way out.old) out.old result
         out.new }
 {
-    call_answer::number(call_expand_key::expand_key(key, way, out))
+    call_answer::answer_number(call_expand_key::expand_key(key, way, out))
 }
 
 #[unsafe(no_mangle)]
@@ -36,7 +36,7 @@ pub extern "C" fn planbook_encrypt_block(
     ensures { Answers (encrypt_block_call words.now way block.now out.old)
         out.old result out.new }
 {
-    call_answer::number(call_with_words::call(Task::EncryptBlock, words, way, &[], block, out))
+    call_answer::answer_number(call_with_words::call(Task::EncryptBlock, words, way, block, out))
 }
 
 #[unsafe(no_mangle)]
@@ -49,7 +49,7 @@ pub extern "C" fn planbook_decrypt_block(
     ensures { Answers (decrypt_block_call words.now way block.now out.old)
         out.old result out.new }
 {
-    call_answer::number(call_with_words::call(Task::DecryptBlock, words, way, &[], block, out))
+    call_answer::answer_number(call_with_words::call(Task::DecryptBlock, words, way, block, out))
 }
 
 #[unsafe(no_mangle)]
@@ -57,7 +57,7 @@ pub extern "C" fn planbook_encrypt_book(words: &[u8], way: u64, book: &[u8], out
     ensures { Answers (encrypt_book_call words.now way book.now out.old)
         out.old result out.new }
 {
-    call_answer::number(call_with_words::call(Task::EncryptBook, words, way, &[], book, out))
+    call_answer::answer_number(call_with_words::call(Task::EncryptBook, words, way, book, out))
 }
 
 #[unsafe(no_mangle)]
@@ -65,7 +65,7 @@ pub extern "C" fn planbook_decrypt_book(words: &[u8], way: u64, book: &[u8], out
     ensures { Answers (decrypt_book_call words.now way book.now out.old)
         out.old result out.new }
 {
-    call_answer::number(call_with_words::call(Task::DecryptBook, words, way, &[], book, out))
+    call_answer::answer_number(call_with_words::call(Task::DecryptBook, words, way, book, out))
 }
 
 // One call for both directions.
@@ -80,7 +80,13 @@ pub extern "C" fn planbook_crypt_note(
     ensures { Answers (crypt_note_call words.now way counter.now note.now
         out.old) out.old result out.new }
 {
-    call_answer::number(call_with_words::call(Task::CryptNote, words, way, counter, note, out))
+    call_answer::answer_number(call_with_words::call(
+        Task::CryptNote { counter },
+        words,
+        way,
+        note,
+        out,
+    ))
 }
 
 #[unsafe(no_mangle)]
@@ -88,5 +94,5 @@ pub extern "C" fn planbook_page(book: &[u8], sheet: u64, out: &mut [u8]) -> u64
     ensures { Answers (page_call book.now sheet out.old) out.old result
         out.new }
 {
-    call_answer::number(page_call::page(book, sheet, out))
+    call_answer::answer_number(page_call::page(book, sheet, out))
 }

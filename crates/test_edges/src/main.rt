@@ -8,51 +8,63 @@
 
 mod calls;
 
-use calls::{make_ready, run_call};
+use calls::{perform, prepare, report};
 use std::io;
-use test_script::commands;
-use test_script::script::{Command, command_at, read_script};
-use test_script::state::{State, fewer};
+use test_script::bench::Bench;
+use test_script::commands::{Call, Command, UnknownCommand};
+use test_script::input::read_script;
+use test_script::script::Script;
 
-// One command, in the state after it.
-fn run_command(
-    rt: &impl Print,
-    command: Command,
-    script: &[u8],
-    state: State,
-    key: &[u8],
-    words: &mut [u8],
-    counter: &mut [u8],
-    book: &mut [u8],
-    kept: &mut [u8],
-    output: &mut [u8],
-) -> io::Result<()> {
-    make_ready(command, state, key, words, counter);
-    commands::run(rt, command, script, state, book, kept, output)?;
-    run_call(
-        rt, command, script, state, key, words, counter, book, output,
-    )
+// Commands that are run before it is said that there are too many.
+const MOST_COMMANDS: u32 = 1000000;
+
+// A line that no file stdout has.
+fn write_unknown(rt: &impl Print, command: UnknownCommand) -> io::Result<()> {
+    rt.write_all(b"unknown command: ")?;
+    rt.write_all(command.0)?;
+    rt.write_all(b"\n")
 }
 
-fn run(
+fn run_command<'a>(
     rt: &impl Print,
-    script: &[u8],
-    key: &[u8],
-    words: &mut [u8],
-    counter: &mut [u8],
-    book: &mut [u8],
-    kept: &mut [u8],
-    output: &mut [u8],
+    command: Command<'a>,
+    script: &mut Script<'a>,
+    bench: &mut Bench<'a>,
 ) -> io::Result<()> {
-    let mut state = State::new();
-    let mut left: u64 = 1000000;
-    while 0 < left {
-        let command = command_at(script, state.at);
-        state = state.after(command);
-        run_command(
-            rt, command, script, state, key, words, counter, book, kept, output,
-        )?;
-        left = fewer(rt, left, script, state.at);
+    match command {
+        Command::Remark => {}
+        Command::Call(call) => return report(rt, call, bench),
+        Command::Seal => {
+            perform(Call::EncryptBook, bench);
+        }
+        Command::Prepare(length) => prepare(length, bench),
+        Command::Mark => script.set_mark(),
+        Command::Again => {
+            if bench.next_way() {
+                script.go_back();
+            }
+        }
+        Command::Set(setting) => bench.set(setting),
+        Command::Write(line) => return bench.write(rt, line),
+    }
+    Ok(())
+}
+
+fn run(rt: &impl Print, text: &[u8]) -> io::Result<()> {
+    let mut script = Script::new(text);
+    let mut bench = Bench::new();
+    for _ in 0..MOST_COMMANDS {
+        if script.is_at_end() {
+            return Ok(());
+        }
+        match Command::try_from(script.next_command()) {
+            Ok(command) => run_command(rt, command, &mut script, &mut bench)?,
+            Err(unknown) => write_unknown(rt, unknown)?,
+        }
+    }
+    if !script.is_at_end() {
+        // The commands are run even where this cannot be said.
+        let _ = rt.write_all(b"too many commands\n");
     }
     Ok(())
 }
@@ -60,16 +72,5 @@ fn run(
 fn main(rt: HostRuntime) -> io::Result<()> {
     let mut space = [0u8; 131072];
     let n = read_script(&rt, &mut space);
-    // The 32-byte key of the cipher's test vectors, whose shorter keys are its first bytes, and one
-    // byte more.
-    run(
-        &rt,
-        &space[..n],
-        b"\xff\xee\xdd\xcc\xbb\xaa\x99\x88\x77\x66\x55\x44\x33\x22\x11\x00\xf0\xe0\xd0\xc0\xb0\xa0\x90\x80\x70\x60\x50\x40\x30\x20\x10\x00\x00",
-        &mut [0u8; 256],
-        &mut [0u8; 32],
-        &mut [0u8; 65540],
-        &mut [0u8; 65540],
-        &mut [0u8; 65540],
-    )
+    run(&rt, &space[..n])
 }

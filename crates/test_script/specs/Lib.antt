@@ -1,2 +1,3 @@
 -- What the contracts of test_script cite.
 pub mod Prefix
+pub mod Calls

@@ -1,111 +1,197 @@
-// The commands of a script but the exported calls. Each function does nothing at the numbers of
-// other functions.
-use crate::outputs::within;
-use crate::script::{Command, say_part, say_text};
-use crate::state::State;
-use check::same;
-use std::io;
-use test_books::{exchange, flip, put, write_book, write_counter};
-use test_console::{say, say_words};
+// The commands of a script, by their names. A name that a number follows ends with a space.
+ghost use Rattle.std.specs.Prelude.{◌≡◌, ◌≢◌, ◌↔◌, IfSome, IsTrue};
+ghost use Rattle.test_script.specs.Calls.{call_name};
 
-// Commands 14 to 16, which change the book.
-fn edit(command: Command, book: &mut [u8]) {
-    let number = command.number;
-    let at = command.first;
-    let value = (command.second % 256) as u8;
-    match number {
-        14 => write_book(book, at, command.second, command.third, command.fourth),
-        15 => put(book, at, value),
-        16 => flip(book, at, value),
-        _ => (),
-    }
+use crate::script::{Piece, numbers, text};
+use std::fmt;
+use test_books::Book;
+
+// An exported call that is reported in a line.
+#[derive(Clone, Copy, Debug, PartialEq, Eq)]
+pub enum Call {
+    Constants,
+    ExpandKey,
+    EncryptBlock,
+    DecryptBlock,
+    EncryptBook,
+    DecryptBook,
+    CryptNote,
+    Page,
 }
 
-fn compare(rt: &impl Print, kept: &[u8], output: &[u8], size: usize) -> io::Result<()> {
-    let k = within(size, kept);
-    let n = within(size, output);
-    if same(&kept[..k], &output[..n]) {
-        say(rt, b": the same\n")
-    } else {
-        say(rt, b": another\n")
-    }
-}
-
-// A line that no file stdout has.
-fn say_unknown(rt: &impl Print, script: &[u8], from: usize, end: usize) -> io::Result<()> {
-    say(rt, b"unknown command: ")?;
-    say_part(rt, script, from, end)?;
-    say(rt, b"\n")
-}
-
-// The empty name is before a remark or a line's end, and before nothing else.
-fn pass(rt: &impl Print, script: &[u8], at: usize, end: usize) -> io::Result<()> {
-    if at < script.len() {
-        if script[at] != b'#' {
-            if script[at] != b'\n' {
-                say_unknown(rt, script, at, end)?;
-            }
+impl Call {
+    fn named(name: &[u8]) -> Option<Call>
+        ensures { IfSome result (λ call. call_name call ≡ name.now) }
+    {
+        match name {
+            b"constants" => Some(Call::Constants),
+            b"expand key" => Some(Call::ExpandKey),
+            b"encrypt block" => Some(Call::EncryptBlock),
+            b"decrypt block" => Some(Call::DecryptBlock),
+            b"encrypt book" => Some(Call::EncryptBook),
+            b"decrypt book" => Some(Call::DecryptBook),
+            b"crypt note" => Some(Call::CryptNote),
+            b"page" => Some(Call::Page),
+            _ => None,
         }
     }
-    Ok(())
-}
 
-// Commands 19 to 21, which write, and names that are no command's.
-fn tell(
-    rt: &impl Print,
-    command: Command,
-    script: &[u8],
-    state: State,
-    book: &[u8],
-    kept: &[u8],
-    output: &[u8],
-) -> io::Result<()> {
-    let number = command.number;
-    match number {
-        0 => pass(rt, script, command.colon, command.end),
-        19 => {
-            say_text(rt, script, command.colon, command.end)?;
-            say(rt, b"\n")
-        }
-        20 => {
-            say_text(rt, script, command.colon, command.end)?;
-            compare(rt, kept, output, state.size)
-        }
-        21 => {
-            let b = within(state.length, book);
-            say_words(rt, &book[..b])
-        }
-        30 => say_unknown(rt, script, command.from, command.end),
-        _ => Ok(()),
+    pub fn takes_way(self) -> bool
+        ensures { IsTrue result ↔ ((self ≢ Call.Constants) × (self ≢ Call.Page)) }
+    {
+        !matches!(self, Call::Constants | Call::Page)
     }
 }
 
-// Command 24, which makes the counter block of a note.
-pub fn make_counter(command: Command, counter: &mut [u8]) {
-    if command.number == 24 {
-        write_counter(counter, command.second, command.third);
+impl fmt::Display for Call {
+    ghost use Rattle.std.specs.Prelude.{Some};
+
+    ghost output = { λ call. Some (call_name call) };
+
+    fn fmt<W: fmt::Write>(&self, f: &mut fmt::Formatter<W>) -> fmt::Result {
+        match self {
+            Call::Constants => f.write_str("constants"),
+            Call::ExpandKey => f.write_str("expand key"),
+            Call::EncryptBlock => f.write_str("encrypt block"),
+            Call::DecryptBlock => f.write_str("decrypt block"),
+            Call::EncryptBook => f.write_str("encrypt book"),
+            Call::DecryptBook => f.write_str("decrypt book"),
+            Call::CryptNote => f.write_str("crypt note"),
+            Call::Page => f.write_str("page"),
+        }
     }
 }
 
-// Command 29, which changes bits of the words.
-pub fn damage(command: Command, words: &mut [u8]) {
-    if command.number == 29 {
-        flip(words, command.first, (command.second % 256) as u8);
+// A command that changes what calls are given.
+#[derive(Clone, Copy, Debug)]
+pub enum Setting<'a> {
+    Key(usize),
+    Way(usize),
+    Words(usize),
+    Damage {
+        at: usize,
+        bits: u8,
+    },
+    Size(usize),
+    Block(usize),
+    Book {
+        book: Book,
+        length: usize,
+    },
+    Counter {
+        length: usize,
+        first: u8,
+        number: u32,
+    },
+    Sheet(usize),
+    Put {
+        at: usize,
+        byte: u8,
+    },
+    Flip {
+        at: usize,
+        bits: u8,
+    },
+    Keep,
+    Exchange,
+    Case(&'a [u8]),
+}
+
+fn low_byte(number: usize) -> u8 {
+    (number % 0x100) as u8
+}
+
+impl<'a> Setting<'a> {
+    fn parse(name: &[u8], rest: &'a [u8]) -> Option<Self> {
+        let [first, second, third, fourth, fifth] = numbers(rest);
+        match name {
+            b"key " => Some(Setting::Key(first)),
+            b"way " => Some(Setting::Way(first)),
+            b"words " => Some(Setting::Words(first)),
+            b"damage " => Some(Setting::Damage {
+                at: first,
+                bits: low_byte(second),
+            }),
+            b"size " => Some(Setting::Size(first)),
+            b"block " => Some(Setting::Block(first)),
+            b"book " => Some(Setting::Book {
+                book: Book::new(first, second, third, fourth),
+                length: fifth,
+            }),
+            b"counter " => Some(Setting::Counter {
+                length: first,
+                first: low_byte(second),
+                number: (third % 0x1_0000_0000) as u32,
+            }),
+            b"sheet " => Some(Setting::Sheet(first)),
+            b"put " => Some(Setting::Put {
+                at: first,
+                byte: low_byte(second),
+            }),
+            b"flip " => Some(Setting::Flip {
+                at: first,
+                bits: low_byte(second),
+            }),
+            b"keep" => Some(Setting::Keep),
+            b"exchange" => Some(Setting::Exchange),
+            b"case" => Some(Setting::Case(text(rest))),
+            _ => None,
+        }
     }
 }
 
-// Any other command but the exported calls, at which it does nothing.
-pub fn run(
-    rt: &impl Print,
-    command: Command,
-    script: &[u8],
-    state: State,
-    book: &mut [u8],
-    kept: &mut [u8],
-    output: &mut [u8],
-) -> io::Result<()> {
-    edit(command, book);
-    exchange(command.number == 17, kept, output);
-    exchange(command.number == 18, book, kept);
-    tell(rt, command, script, state, book, kept, output)
+// A command that writes a line, or the lines of 'hex'.
+#[derive(Clone, Copy, Debug)]
+pub enum Line<'a> {
+    Say(&'a [u8]),
+    Compare(&'a [u8]),
+    Hex,
+}
+
+#[derive(Clone, Copy, Debug)]
+pub enum Command<'a> {
+    Remark,
+    Call(Call),
+    // The call 'encrypt book' with no line.
+    Seal,
+    // The key is expanded into so many bytes of words.
+    Prepare(usize),
+    Mark,
+    Again,
+    Set(Setting<'a>),
+    Write(Line<'a>),
+}
+
+// What is no command.
+#[derive(Clone, Copy, Debug)]
+pub struct UnknownCommand<'a>(pub &'a [u8]);
+
+impl<'a> Command<'a> {
+    fn parse(name: &[u8], rest: &'a [u8]) -> Option<Self> {
+        match name {
+            b"seal" => Some(Command::Seal),
+            b"prepare " => Some(Command::Prepare(numbers(rest)[0])),
+            b"mark" => Some(Command::Mark),
+            b"again" => Some(Command::Again),
+            b"say" => Some(Command::Write(Line::Say(text(rest)))),
+            b"compare" => Some(Command::Write(Line::Compare(text(rest)))),
+            b"hex" => Some(Command::Write(Line::Hex)),
+            _ => match Call::named(name) {
+                Some(call) => Some(Command::Call(call)),
+                None => Setting::parse(name, rest).map(Command::Set),
+            },
+        }
+    }
+}
+
+impl<'a> TryFrom<Piece<'a>> for Command<'a> {
+    type Error = UnknownCommand<'a>;
+
+    fn try_from(piece: Piece<'a>) -> Result<Self, UnknownCommand<'a>> {
+        if piece.is_remark() {
+            return Ok(Command::Remark);
+        }
+        let (name, rest) = piece.name_and_rest();
+        Command::parse(name, rest).ok_or(UnknownCommand(piece.bytes))
+    }
 }

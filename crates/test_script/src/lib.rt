@@ -1,9 +1,9 @@
-// What the program test_edges is written with (`page` takes one bound and the reading of its book
-// from here): its script, the numbers that commands set, the books, outputs that show whether a
-// call wrote, and every command but the exported calls.
+// What the program test_edges is written with (`page` takes the reading of its book and one cut
+// from here): its script, the commands, and what calls are given.
 #![tactic(auto)]
 
+pub mod bench;
 pub mod commands;
-pub mod outputs;
+pub mod cut;
+pub mod input;
 pub mod script;
-pub mod state;

@@ -12,15 +12,18 @@ use planbook::{
     planbook_constants, planbook_decrypt_block, planbook_encrypt_block, planbook_expand_key,
 };
 use std::io;
-use test_console::{say, say_answer, say_number, say_words};
+use test_console::{Answer, Words};
+
+// The 32-byte key of the paper. The shorter keys are its first 16 and 24 bytes.
+static KEY: [u8; 32] = [
+    0xff, 0xee, 0xdd, 0xcc, 0xbb, 0xaa, 0x99, 0x88, 0x77, 0x66, 0x55, 0x44, 0x33, 0x22, 0x11, 0x00,
+    0xf0, 0xe0, 0xd0, 0xc0, 0xb0, 0xa0, 0x90, 0x80, 0x70, 0x60, 0x50, 0x40, 0x30, 0x20, 0x10, 0x00,
+];
 
 // What a call answered, and its output.
-fn report(rt: &impl Print, name: &[u8], answer: u64, output: &[u8]) -> io::Result<()> {
-    say(rt, name)?;
-    say(rt, b": ")?;
-    say_answer(rt, answer)?;
-    say(rt, b"\n")?;
-    say_words(rt, output)
+fn report(rt: &impl Print, name: &str, answer: u64, output: &[u8]) -> io::Result<()> {
+    println!(rt; "{name}: {}", Answer::from(answer))?;
+    print!(rt; "{}", Words(output))
 }
 
 // The block encrypted, and decrypted again, under the words and by one way.
@@ -28,46 +31,45 @@ fn blocks(rt: &impl Print, words: &[u8], way: u64) -> io::Result<()> {
     let plaintext = [0, 1, 2, 3, 4, 5, 6, 7, 8, 9, 10, 11, 12, 13, 14, 15];
     let mut ciphertext = [0u8; 16];
     let encrypted = planbook_encrypt_block(words, way, &plaintext, &mut ciphertext);
-    report(rt, b"ciphertext", encrypted, &ciphertext)?;
+    report(rt, "ciphertext", encrypted, &ciphertext)?;
     let mut decrypted = [0u8; 16];
     let answer = planbook_decrypt_block(words, way, &ciphertext, &mut decrypted);
-    report(rt, b"decrypted block", answer, &decrypted)
+    report(rt, "decrypted block", answer, &decrypted)
 }
 
 // The constants of a key length.
 fn constants(rt: &impl Print, key_length: u64, output: &mut [u8]) -> io::Result<()> {
-    say(rt, b"key of ")?;
-    say_number(rt, key_length)?;
-    say(rt, b" bytes\n")?;
+    println!(rt; "key of {key_length} bytes")?;
     let answer = planbook_constants(key_length, output);
-    report(rt, b"constants", answer, output)
+    report(rt, "constants", answer, output)
 }
 
-// A key expanded, and a block under its words, by one way. The output is passed zeroed each time,
-// so that no way can pass by what another wrote.
+// A key expanded, and a block under its words, by one way.
 fn by_way(rt: &impl Print, key: &[u8], way: u64, output: &mut [u8]) -> io::Result<()> {
-    say(rt, b"way ")?;
-    say_number(rt, way)?;
-    say(rt, b"\n")?;
+    println!(rt; "way {way}")?;
     let answer = planbook_expand_key(key, way, output);
-    report(rt, b"expanded key, WK and then RK", answer, output)?;
+    report(rt, "expanded key, WK and then RK", answer, output)?;
     blocks(rt, output, way)
 }
 
+// The vectors of a key, with spaces for its constants and its words. The words are zeroed each
+// time, so that no way can pass by what another wrote.
+fn vectors(
+    rt: &impl Print,
+    key: &[u8],
+    constants_space: &mut [u8],
+    words: &mut [u8],
+) -> io::Result<()> {
+    constants(rt, key.len() as u64, constants_space)?;
+    for way in 1..=3 {
+        words.fill(0);
+        by_way(rt, key, way, words)?;
+    }
+    Ok(())
+}
+
 fn main(rt: HostRuntime) -> io::Result<()> {
-    // The shorter keys are the first 16 and 24 bytes of the long one.
-    let key: &[u8] =
-        b"\xff\xee\xdd\xcc\xbb\xaa\x99\x88\x77\x66\x55\x44\x33\x22\x11\x00\xf0\xe0\xd0\xc0\xb0\xa0\x90\x80\x70\x60\x50\x40\x30\x20\x10\x00";
-    constants(&rt, 16, &mut [0u8; 240])?;
-    by_way(&rt, &key[..16], 1, &mut [0u8; 160])?;
-    by_way(&rt, &key[..16], 2, &mut [0u8; 160])?;
-    by_way(&rt, &key[..16], 3, &mut [0u8; 160])?;
-    constants(&rt, 24, &mut [0u8; 336])?;
-    by_way(&rt, &key[..24], 1, &mut [0u8; 192])?;
-    by_way(&rt, &key[..24], 2, &mut [0u8; 192])?;
-    by_way(&rt, &key[..24], 3, &mut [0u8; 192])?;
-    constants(&rt, 32, &mut [0u8; 368])?;
-    by_way(&rt, key, 1, &mut [0u8; 224])?;
-    by_way(&rt, key, 2, &mut [0u8; 224])?;
-    by_way(&rt, key, 3, &mut [0u8; 224])
+    vectors(&rt, &KEY[..16], &mut [0u8; 240], &mut [0u8; 160])?;
+    vectors(&rt, &KEY[..24], &mut [0u8; 336], &mut [0u8; 192])?;
+    vectors(&rt, &KEY, &mut [0u8; 368], &mut [0u8; 224])
 }

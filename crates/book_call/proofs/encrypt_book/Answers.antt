@@ -3,4 +3,4 @@ use Rattle.book_call.proofs.encrypt_book.Goals as goal
 
 pub returns : goal.returns
 unfolding encrypt_book_by
-returns c = c.crypt_book.ensures
+returns g c = c.crypt_book.ensures

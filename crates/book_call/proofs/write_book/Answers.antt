@@ -3,6 +3,6 @@ use Rattle.book_call.specs.BookCallLaws.{map_bodies_whole}
 use Rattle.book_call.proofs.write_book.Goals as goal
 
 pub returns : goal.returns
-returns c =
-    c.crypt_bodies.ensures ∙ map_bodies_whole _ _ c.requires.formed.0
+returns g c =
+    c.crypt_bodies.ensures ∙ map_bodies_whole _ _ c.requires.0
     (rw c.kind.ensures at c.copy_front.ensures)

@@ -1,35 +1,12 @@
-use mathlib.Core.Path.{◌≡◌}
-use mathlib.Core.Bool.{true}
-use borrow.Author.Rules.{rules}
+use Rattle.std.proofs.Common.{◌≡◌, ◌-◌, arith}
 use Rattle.clefia_laws.specs.DigitLaws.{below_all}
-use Rattle.book_chain.specs.ChainLaws.{Decrypted, decrypted_start}
+use Rattle.planbook_spec.specs.Book.{count}
+use Rattle.book_chain.specs.ChainLaws.{decrypted_start}
 use Rattle.book_check_sheet.proofs.decrypted_sheet_holds.Goals as goal
 
-pub loop-fours-init : goal.loop-fours-init
-loop-fours-init c =
-    let begun : Decrypted true c.args.expanded.now c.args.entry.now c.args.body.now 0
-    c.read_sheet-sheet.result.count c.new-chain.result.previous =
-    let r : c.read_sheet-sheet.result ≡ _ = c.read_sheet-sheet.ensures in
-    rw (r, c.new-chain.ensures) (decrypted_start c.args.expanded.now c.args.entry.now c.args.body.now
-    (below_all c.args.entry.now (λ j h. (c.shared_slice_known-2-1.given j).fits))
-    c.requires.len) in
-    (c.read_sheet-sheet.ensures, begun, c.fours-fours.ensures)
-
-pub loop-fours-preserved : goal.loop-fours-preserved
-loop-fours-preserved c = (
-  c.loop-fours.invariant.0,
-  rw c.load-next.ensures (c.four_hold-more.ensures c.args.entry.now c.loop-fours.left c.loop-fours.invariant.0
-      c.requires.body_len c.loop-fours.invariant.1 (search rules)),
-  search rules,
-)
-
-pub rest_holds-requires : goal.rest_holds-requires
-rest_holds-requires c = record {
-  cipher_ready = search rules;
-  len = search rules;
-  body_len = search rules;
-  decrypted = c.loop-fours.invariant.1;
-}
-
-pub returns : goal.returns
-returns c = c.rest_holds.ensures
+pub loop-i-init : goal.loop-i-init
+loop-i-init g c =
+    let s = c.args.sheet in
+    let all : count s.entry.now - 0 ≡ count s.entry.now = omega arith in
+    rw (all, c.new-chain.ensures) (decrypted_start c.args.cipher.expanded.now s.entry.now s.body.now
+    (below_all s.entry.now s.entry_bytes) s.entry_len)

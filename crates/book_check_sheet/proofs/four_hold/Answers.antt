@@ -1,4 +1,5 @@
 -- `book_check_sheet::four_hold` meets its contract: one record after the other.
+use Rattle.std.proofs.Common.{rules}
 use Prim.Native.Nat.{◌+◌, ◌-◌, ◌^◌}
 use mathlib.Core.Path.{◌≡◌, refl, ap}
 use native.Mathlib.Omega.{arith}
@@ -9,14 +10,13 @@ use Rattle.book_check_sheet.specs.Looked.{record_turn}
 use Rattle.book_check_sheet.proofs.four_hold.Goals as goal
 
 pub returns : goal.returns
-returns c e left known size o h =
+returns g c e left known size o h =
     let at = c.args.at in
-    let words : Below (2 ^ 32) c.args.expanded.now =
-    below_all c.args.expanded.now
-    (λ j k. (c.shared_slice_known-1.given j).fits) in
+    let words : Below (2 ^ 32) c.args.cipher.expanded.now =
+    below_all c.args.cipher.expanded.now c.args.cipher.are_words in
     let bytes : Below 256 c.args.body.now =
     below_all c.args.body.now
-    (λ j k. (c.shared_slice_known-2-1.given j).fits) in
+    (λ j k. search rules) in
     let p : at + 64 ≡ at + 16 + 16 + 16 + 16 = omega arith in
     let q : at + 48 ≡ at + 16 + 16 + 16 = omega arith in
     let n : left - 4 ≡ left - 1 - 1 - 1 - 1 = omega arith in

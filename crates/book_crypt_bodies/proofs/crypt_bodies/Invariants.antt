@@ -1,11 +1,11 @@
--- `book_crypt_bodies::crypt_bodies` meets its contract: the bodies before the cursor are written.
+-- `book_crypt_bodies::crypt_bodies` meets its contract: the bodies of the sheets that the walk has
+-- left are still to be written, from `at` on.
 use Rattle.book_chain.specs.Crypt.{crypted_body}
+use Rattle.book_sheets.specs.Left.{sheets_left}
 use Rattle.book_crypt_bodies.specs.BodiesLaws.{BodiesFilled}
 use Rattle.book_crypt_bodies.proofs.crypt_bodies.Given as goal
 
-abbrev pub invariant-loop-cursor : goal.invariant-loop-cursor
-invariant-loop-cursor l =
-    BodiesFilled (crypted_body l.decrypting l.expanded) l.book l.initial.out l.out l.cursor
-
-abbrev pub decreases-loop-cursor : goal.decreases-loop-cursor
-decreases-loop-cursor l = l.cursor.left
+abbrev pub invariant-loop-sheet : goal.invariant-loop-sheet
+invariant-loop-sheet g l =
+    BodiesFilled (crypted_body l.decrypting l.cipher.expanded.now) l.book l.initial.out l.out
+    (sheets_left l.sheet-iterator) l.at

@@ -1,55 +1,55 @@
-use Prim.Native.Nat.{◌+◌, ◌*◌, ◌≤◌}
-use mathlib.Core.Path.{◌≡◌, refl, sym, ◌∙◌, ap}
-use borrow.Author.Rules.{rules}
-use lib.ListN.{take, drop}
-use Rattle.planbook_spec.specs.Book.{sheet_count}
-use Rattle.book_entries.specs.declared.entry.Entry.TheVariants.{Good, Broken}
+-- `book_form::check_contents` meets its contract: the answer by each way out of the loop.
+use Rattle.std.proofs.Common.{◌≡◌, sym, ◌∙◌, arith, rules, Some, None, ◌-◌, ◌+◌, ◌*◌, ◌<◌, ◌≤◌, length}
+use Rattle.std.proofs.lemmas.Result.{err_from_is_err_and}
+use Rattle.call_answer.specs.declared.Check.TheVariants.{Entry}
 use Rattle.book_entries.specs.Entry.{entry_of}
-use Rattle.book_entries.specs.EntryLaws.{Held, held}
-use Rattle.planbook_laws.specs.Parts.{part, part_length}
-use Rattle.book_form.specs.Walks.{walk_start, walk_step, walk_broken, walk_wrong, walk_right}
+use Rattle.book_form.specs.Walks.{left_start, left_room, left_step, left_broken, left_wrong, left_right}
 use Rattle.book_form.proofs.check_contents.Goals as goal
-use Rattle.book_form.proofs.check_contents.Goals.{In-Good}
+use Rattle.book_form.proofs.check_contents.Goals.{In_ok-sheet}
 
--- the entry at `at`, which holds
-good : (c : In-Good)
-    → Good c.in-Good.sheet ≡ entry_of c.loop-left.previous (take 24 (drop c.loop-left.at c.args.book.now))
-good c = sym c.in-Good.is ∙ c.read_entry.ensures
-    ∙ ap (entry_of c.loop-left.previous) (part 24 c.loop-left.at c.args.book.now refl)
+-- the sheet that was read
+good : (c : In_ok-sheet) → Some c.in_ok-sheet.sheet ≡ entry_of c.loop-entry.previous c.in-Some.entry.now
+good c = let found : c.read_entry.result ≡ Some c.in_ok-sheet.sheet = grind arith in sym found ∙ c.read_entry.ensures
 
-pub loop-left-init : goal.loop-left-init
-loop-left-init c = (c.requires.0, walk_start _ _ c.requires.1 c.requires.0)
+pub loop-entry-init : goal.loop-entry-init
+loop-entry-init c = (
+  search rules,
+  let size : 4 + 24 * c.args.sheets - 4 ≡ 24 * c.args.sheets = omega arith in
+      rw (c.into_iter-entry-iterator.ensures.into_iter_gives, c.chunks_exact-entry-items.ensures.rest, size)
+      (left_start c.args.book.now c.args.sheets c.requires.1 c.requires.0 c.requires.2),
+)
 
-pub read_entry-requires : goal.read_entry-requires
-read_entry-requires c =
-    part_length 24 c.loop-left.at c.args.book.now refl (search rules)
-
-pub returns-in_default : goal.returns-in_default
-returns-in_default c =
-    let broken : Broken ≡ entry_of c.loop-left.previous (take 24 (drop c.loop-left.at c.args.book.now)) =
-    sym c.in_default.is ∙ c.read_entry.ensures
-    ∙ ap (entry_of c.loop-left.previous) (part 24 c.loop-left.at c.args.book.now refl) in
-    walk_broken c.loop-left.invariant.1 (search rules) broken
+pub returns-in_err-sheet : goal.returns-in_err-sheet
+returns-in_err-sheet c =
+    let p = err_from_is_err_and c.from_residual.result c.from_residual.ensures.1 in
+    let none : c.read_entry.result ≡ None = grind arith in
+    let check : c.in_err-sheet.field-0.0 ≡ Entry = grind arith in
+    rw (p.1, p.2, check)
+    (left_broken c.loop-entry.invariant.1 _ _ c.in-Some.ensures.steps.1.0
+    (c.in-Some.ensures.steps.1.1 ∙ c.loop-entry.invariant.0) (sym none ∙ c.read_entry.ensures))
 
 pub overflow_add-records : goal.overflow_add-records
 overflow_add-records c =
-    let k : Held _ (take 24 (drop c.loop-left.at c.args.book.now))
-    c.in-Good.sheet = held _ _ _ (good (goal.at.overflow_add-records c).In-Good) in
-    let few : c.in-Good.sheet.count ≤ 1024 = rw k.sheet k.few in
+    let room : c.loop-entry.records + c.in_ok-sheet.sheet.count ≤ 65536 =
+    left_room c.loop-entry.invariant.1 _ _ c.in-Some.ensures.steps.1.0
+    (c.in-Some.ensures.steps.1.1 ∙ c.loop-entry.invariant.0) _ (good (goal.at.overflow_add-records c).In_ok-sheet) in
     search rules
 
-pub loop-left-preserved : goal.loop-left-preserved
-loop-left-preserved c = (
-  c.loop-left.invariant.0,
-  walk_step c.loop-left.invariant.1 _ (search rules) (good (goal.at.loop-left-preserved c).In-Good),
+pub loop-entry-preserved : goal.loop-entry-preserved
+loop-entry-preserved c = (
+  c.in-Some.ensures.steps.0 ∙ c.loop-entry.invariant.0,
+  left_step c.loop-entry.invariant.1 _ _ c.in-Some.ensures.steps.1.0
+      (c.in-Some.ensures.steps.1.1 ∙ c.loop-entry.invariant.0) _ (good (goal.at.loop-entry-preserved c).In_ok-sheet),
 )
 
-pub returns-then-book-at : goal.returns-then-book-at
-returns-then-book-at c =
-    let p : c.loop-left.at ≡ 4 + 24 * sheet_count c.args.book.now = search rules in
-    walk_wrong c.loop-left.invariant.1 (search rules) (rw p at c.if-book-at.true)
+pub returns-then-book-end : goal.returns-then-book-end
+returns-then-book-end c =
+    let short : length c.loop-entry.entry-iterator.rest.now < 24 =
+    rw c.loop-entry.invariant.0 at c.in-None.ensures.steps.1.0 in
+    left_wrong c.loop-entry.invariant.1 short (rw c.requires.0 at c.if-book-end.true)
 
 pub returns : goal.returns
 returns c =
-    let p : c.loop-left.at ≡ 4 + 24 * sheet_count c.args.book.now = search rules in
-    walk_right c.loop-left.invariant.1 (search rules) (rw p at c.if-book-at.false)
+    let short : length c.loop-entry.entry-iterator.rest.now < 24 =
+    rw c.loop-entry.invariant.0 at c.in-None.ensures.steps.1.0 in
+    left_right c.loop-entry.invariant.1 short (rw c.requires.0 at c.if-book-end.false)

@@ -1,10 +1,6 @@
--- `book_sheets::seek` meets its contract: the cursor has come to sheet i.
-use Prim.Native.Nat.{◌-◌, ◌≤◌}
+-- `book_sheets::seek` meets its contract: the cursor has come to the sheet that the turns count.
 use Rattle.book_sheets.specs.Cursors.{Reached}
 use Rattle.book_sheets.proofs.seek.Given as goal
 
-abbrev pub invariant-loop-i : goal.invariant-loop-i
-invariant-loop-i l = (l.i ≤ l.sheet) × Reached l.book l.i l.cursor
-
-abbrev pub decreases-loop-i : goal.decreases-loop-i
-decreases-loop-i l = l.sheet - l.i
+abbrev pub invariant-loop : goal.invariant-loop
+invariant-loop l = Reached l.book l.counter l.cursor

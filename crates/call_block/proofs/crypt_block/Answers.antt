@@ -9,16 +9,16 @@ use Rattle.call_block.proofs.crypt_block.Goals as goal
 
 pub returns-then-block-ne16 : goal.returns-then-block-ne16
 unfolding block_under block_checks block_check
-returns-then-block-ne16 c = answered_refused _ (judged_false (ne_eqb _ _ c.if-block-ne16.true) 3 _ _)
+returns-then-block-ne16 g c = answered_refused _ (judged_false (ne_eqb _ _ c.if-block-ne16.true) 3 _ _)
 
 pub returns-then-out-ne16 : goal.returns-then-out-ne16
 unfolding block_under block_checks block_check output_check
-returns-then-out-ne16 c = answered_refused _ (judged_true (eq-eqb _ _ c.if-block-ne16.false) 3 _ _
+returns-then-out-ne16 g c = answered_refused _ (judged_true (eq-eqb _ _ c.if-block-ne16.false) 3 _ _
     ∙ judged_false (ne_eqb _ _ c.if-out-ne16.true) 4 _ _)
 
 pub returns-then-decrypting : goal.returns-then-decrypting
 unfolding block_under block_checks block_check output_check
-returns-then-decrypting c =
+returns-then-decrypting g c =
     answered_accepted _ _
     (judged_true (eq-eqb _ _ c.if-block-ne16.false) 3 _ _
     ∙ judged_true (eq-eqb _ _ c.if-out-ne16.false) 4 _ _ ∙ judged_pass none _)
@@ -26,7 +26,7 @@ returns-then-decrypting c =
 
 pub returns : goal.returns
 unfolding block_under block_checks block_check output_check
-returns c =
+returns g c =
     answered_accepted _ _
     (judged_true (eq-eqb _ _ c.if-block-ne16.false) 3 _ _
     ∙ judged_true (eq-eqb _ _ c.if-out-ne16.false) 4 _ _ ∙ judged_pass none _)

@@ -1,13 +1,13 @@
-use mathlib.Core.Bool.{not}
-use mathlib.Core.Path.{ap}
+use Rattle.std.proofs.Common.{true, false, refl, arith}
+use Rattle.std.proofs.lemmas.Grind.{common_steps}
 use Rattle.planbook_spec.specs.Checks.{words_check}
 use Rattle.call_checks.specs.CheckTests.{check_fails, check_passes}
 use Rattle.call_checks.proofs.check_words.Goals as goal
 
-pub returns-then-not-one_of : goal.returns-then-not-one_of
+pub returns-in-160 : goal.returns-in-160
 unfolding words_check
-returns-then-not-one_of c = check_fails c.one_of.ensures (ap not c.if-not-one_of.true) 14 _
+returns-in-160 c = check_passes {r = true} (grind (arith, common_steps)) refl 14 _
 
-pub returns : goal.returns
+pub returns-in_default : goal.returns-in_default
 unfolding words_check
-returns c = check_passes c.one_of.ensures (ap not c.if-not-one_of.false) 14 _
+returns-in_default c = check_fails {r = false} (grind (arith, common_steps)) refl 14 _

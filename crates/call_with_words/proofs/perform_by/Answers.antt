@@ -1,27 +1,18 @@
--- `call_with_words::perform_by` meets its contract: the words are read, and one kind of tables is
--- passed, or none.
-use borrow.Author.Rules.{rules}
-use Rattle.cipher_ffunction.specs.Tables.{valid_word_tables, valid_byte_tables, valid_no_tables}
+-- `call_with_words::perform_by` meets its contract: the words are read, and the task is done under
+-- them.
 use Rattle.call_with_words.specs.CallLaws.{answered_read}
 use Rattle.call_with_words.proofs.perform_by.Goals as goal
 
-pub perform-requires : goal.perform-requires
-perform-requires c = (valid_word_tables c.all.ensures, search rules)
+pub returns-in-ByteTables : goal.returns-in-ByteTables
+returns-in-ByteTables c =
+    answered_read _ _ _ _ _ c.requires.words_len c.load_all.ensures (rw c.new.ensures at c.perform.ensures)
 
-pub returns-then-way-eq2 : goal.returns-then-way-eq2
-returns-then-way-eq2 c =
-    answered_read _ _ _ _ _ _ c.requires.words_len c.load_all.ensures c.perform.ensures
+pub returns-in-WordTables : goal.returns-in-WordTables
+returns-in-WordTables c =
+    answered_read _ _ _ _ _ c.requires.words_len c.load_all.ensures
+    (rw c.new-in-WordTables.ensures at c.perform-in-WordTables.ensures)
 
-pub perform-requires-then-way-eq1 : goal.perform-requires-then-way-eq1
-perform-requires-then-way-eq1 c = (valid_byte_tables c.byte_tables.ensures, search rules)
-
-pub returns-then-way-eq1 : goal.returns-then-way-eq1
-returns-then-way-eq1 c =
-    answered_read _ _ _ _ _ _ c.requires.words_len c.load_all.ensures c.perform-then-way-eq1.ensures
-
-pub perform-requires-2 : goal.perform-requires-2
-perform-requires-2 c = (valid_no_tables, search rules)
-
-pub returns : goal.returns
-returns c =
-    answered_read _ _ _ _ _ _ c.requires.words_len c.load_all.ensures c.perform-2.ensures
+pub returns-in-Rules : goal.returns-in-Rules
+returns-in-Rules c =
+    answered_read _ _ _ _ _ c.requires.words_len c.load_all.ensures
+    (rw c.new-in-Rules.ensures at c.perform-in-Rules.ensures)

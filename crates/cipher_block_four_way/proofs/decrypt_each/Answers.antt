@@ -3,10 +3,10 @@ use Rattle.cipher_block_four_way.proofs.decrypt_each.Goals as goal
 
 pub returns : goal.returns
 unfolding round_count decrypt_words
-returns c =
+returns g c =
     rw (
       c.whiten_each-2.ensures,
       c.inverse_network4_each-t.ensures,
       c.whiten_each.ensures,
-      c.round_count-n.ensures,
+      c.round_count.ensures,
     )

@@ -1,7 +1,7 @@
 use Rattle.cipher_block_four_way.proofs.decrypt_four.Goals as goal
 
 pub returns : goal.returns
-returns c = rw (
+returns g c = rw (
   c.decrypt_each.ensures,
   c.load.ensures,
   c.load-2.ensures,

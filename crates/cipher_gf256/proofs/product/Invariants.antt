@@ -1,14 +1,10 @@
 -- `cipher_gf256::product` meets its contract. The loop's invariant: a set bit is left, and the sum,
--- with the shifted factor times the bits that are left, is the product. The measure is the number
--- of bits left.
-use Prim.Native.Nat.{◌<◌}
+-- with the shifted factor times the bits that are left, is the product.
+use Prim.Native.Nat.{◌-◌, ◌<◌}
 use mathlib.Core.Path.{◌≡◌}
 use Rattle.clefia_spec.specs.Field.{add_product, product}
 use Rattle.cipher_gf256.proofs.product.Given as goal
 
-abbrev pub invariant-loop-left : goal.invariant-loop-left
-invariant-loop-left l = (0 < l.bits)
-    × (add_product l.left l.sum l.shifted l.bits ≡ product l.x l.y)
-
-abbrev pub decreases-loop-left : goal.decreases-loop-left
-decreases-loop-left l = l.left
+abbrev pub invariant-loop : goal.invariant-loop
+invariant-loop l = (0 < l.bits)
+    × (add_product (8 - l.counter) l.sum l.shifted l.bits ≡ product l.x l.y)

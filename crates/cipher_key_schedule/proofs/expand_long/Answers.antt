@@ -6,7 +6,7 @@ use Rattle.cipher_round_keys.specs.Steps.{turns}
 use Rattle.cipher_key_schedule.proofs.expand_long.Goals as goal
 
 pub round_keys-requires : goal.round_keys-requires
-round_keys-requires c = record {
+round_keys-requires g c = record {
   period = turns;
   n_in_bounds = search rules;
   expanded_len = c.put_four.auto.dst ∙ c.requires.expanded_len;
@@ -14,7 +14,7 @@ round_keys-requires c = record {
 
 pub returns : goal.returns
 unfolding expand_long
-returns c =
+returns g c =
     rw (
       c.round_keys.ensures,
       c.put_four.ensures,
@@ -22,6 +22,6 @@ returns c =
       c.xors4.ensures,
       c.second_half.ensures,
       c.first_half.ensures,
-      c.network8-l.ensures,
+      c.network-l.ensures,
       c.joined.ensures,
     )

@@ -6,7 +6,7 @@ use Rattle.cipher_round_keys.specs.Steps.{always}
 use Rattle.cipher_key_schedule.proofs.expand_short.Goals as goal
 
 pub round_keys-requires : goal.round_keys-requires
-round_keys-requires c = record {
+round_keys-requires g c = record {
   period = always;
   n_in_bounds = search rules;
   expanded_len = c.put_four.auto.dst ∙ c.requires.expanded_len;
@@ -14,11 +14,11 @@ round_keys-requires c = record {
 
 pub returns : goal.returns
 unfolding expand_short
-returns c =
+returns g c =
     rw (
       c.round_keys.ensures,
       c.put_four.ensures,
       take_put_four c.args.expanded.now 0 c.args.k (search rules) (search rules),
-      c.network4-l.ensures,
+      c.network-l.ensures,
       c.sixteen-con.ensures,
     )

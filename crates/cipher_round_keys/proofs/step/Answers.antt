@@ -2,7 +2,7 @@ use Rattle.cipher_round_keys.proofs.step.Goals as goal
 
 pub returns : goal.returns
 returns c = record {
-  value = c.double_swap.ensures;
+  l_after = c.double_swap.ensures;
   expanded_after = rw
       (c.put_four.ensures, c.step_keys.ensures);
 }

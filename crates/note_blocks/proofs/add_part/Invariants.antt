@@ -1,11 +1,7 @@
 -- `note_blocks::add_part` meets its contract: what is before `i` has been written.
-use Rattle.std.proofs.Common.{◌≡◌, ◌-◌, ◌≤◌, length, take}
+use Rattle.std.proofs.Common.{◌≡◌, take}
 use Rattle.clefia_spec.specs.Words.{xors}
 use Rattle.note_blocks.proofs.add_part.Given as goal
 
 abbrev pub invariant-loop-i : goal.invariant-loop-i
-invariant-loop-i l = (l.i ≤ length l.part) × (length l.out ≡ length l.part)
-    × (take l.i l.out ≡ take l.i (xors l.bytes l.part))
-
-abbrev pub decreases-loop-i : goal.decreases-loop-i
-decreases-loop-i l = length l.part - l.i
+invariant-loop-i l = take l.i l.out ≡ take l.i (xors l.bytes l.part)

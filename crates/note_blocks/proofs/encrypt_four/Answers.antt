@@ -1,7 +1,7 @@
 use Rattle.note_blocks.proofs.encrypt_four.Goals as goal
 
 pub returns : goal.returns
-returns c = rw (
+returns g c = rw (
   c.encrypt_each.ensures,
   c.counter_state.ensures,
   c.counter_state-2.ensures,

@@ -6,6 +6,6 @@ pub returns-then-rest-eq0 : goal.returns-then-rest-eq0
 unfolding shown_digit
 returns-then-rest-eq0 c = rw (eq-eqb _ _ c.if-rest-eq0.true)
 
-pub returns : goal.returns
+pub returns-else-rest-eq0 : goal.returns-else-rest-eq0
 unfolding shown_digit
-returns c = rw (ne_eqb _ _ c.if-rest-eq0.false)
+returns-else-rest-eq0 c = rw (ne_eqb _ _ c.if-rest-eq0.false)

@@ -15,11 +15,11 @@ returns c =
     rw (
       c.word.ensures,
       c.word-2.ensures,
-      c.wide.ensures,
+      c.from.ensures,
       c.u16_at.ensures,
       c.u16_at-2.ensures,
     ) at
-    (line_put c.word.result c.word-2.result c.wide.result
+    (line_put c.word.result c.word-2.result c.from.result
     c.u16_at.result c.u16_at-2.result
     c.put_field.new.out c.put_field-2.new.out c.put_field-3.new.out c.put_field-4.new.out
     c.put_field-5.new.out

@@ -5,6 +5,3 @@ use Rattle.page_text.proofs.write_number.Given as goal
 
 abbrev pub invariant-loop-i : goal.invariant-loop-i
 invariant-loop-i l = DigitsWritten (length l.initial.out) l.n l.i l.rest l.out
-
-abbrev pub decreases-loop-i : goal.decreases-loop-i
-decreases-loop-i l = l.i

@@ -7,4 +7,4 @@ use Rattle.planbook.proofs.planbook_decrypt_block.Goals as goal
 
 pub returns : goal.returns
 returns c = answers (answered_same (decrypt_block_task _ _ _ _) c.call.ensures)
-    c.number.ensures
+    c.answer_number.ensures

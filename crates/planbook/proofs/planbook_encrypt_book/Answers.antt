@@ -7,4 +7,4 @@ use Rattle.planbook.proofs.planbook_encrypt_book.Goals as goal
 
 pub returns : goal.returns
 returns c = answers (answered_same (encrypt_book_task _ _ _ _) c.call.ensures)
-    c.number.ensures
+    c.answer_number.ensures

@@ -4,4 +4,4 @@ use Rattle.call_answer.specs.Answer.{answers}
 use Rattle.planbook.proofs.planbook_expand_key.Goals as goal
 
 pub returns : goal.returns
-returns c = answers c.expand_key.ensures c.number.ensures
+returns c = answers c.expand_key.ensures c.answer_number.ensures

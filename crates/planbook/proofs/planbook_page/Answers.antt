@@ -4,4 +4,4 @@ use Rattle.call_answer.specs.Answer.{answers}
 use Rattle.planbook.proofs.planbook_page.Goals as goal
 
 pub returns : goal.returns
-returns c = answers c.page.ensures c.number.ensures
+returns c = answers c.page.ensures c.answer_number.ensures

@@ -1,7 +1,0 @@
-use Rattle.clefia_spec.specs.Block.{encrypt_under}
-use Rattle.cipher_block.proofs.encrypt_block.Goals as goal
-
-pub returns : goal.returns
-unfolding encrypt_under
-returns c =
-    rw (c.store.ensures, c.encrypt_words.ensures, c.load.ensures)

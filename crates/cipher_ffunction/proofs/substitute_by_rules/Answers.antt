@@ -1,8 +1,0 @@
-use native.Mathlib.Nat.{div-one}
-use Rattle.clefia_spec.specs.Words.{to_digits}
-use Rattle.clefia_spec.specs.FFunction.{substitute}
-use Rattle.cipher_ffunction.proofs.substitute_by_rules.Goals as goal
-
-pub returns : goal.returns
-unfolding to_digits substitute
-returns c = cc (div-one c.args.z)
