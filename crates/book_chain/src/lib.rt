@@ -3,12 +3,11 @@
 
 #![tactic(auto)]
 
-ghost use Rattle.std.specs.Prelude.{◌≡◌, drop};
+ghost use Rattle.std.specs.Prelude.{◌≡◌, length, drop};
 ghost use Rattle.clefia_spec.specs.Words.{words_of};
 ghost use Rattle.book_chain.specs.Chain.{encrypt_step, decrypt_step};
 ghost use Rattle.book_chain.specs.Crypt.{crypt_step};
 
-use book_sheets::SheetBytes;
 use cipher_block::Cipher;
 use cipher_ffunction::FFunctions;
 
@@ -20,11 +19,12 @@ pub struct Chain {
 
 impl Chain {
     // A sheet's chain begins at the iv of its entry.
-    pub fn new(sheet: SheetBytes<'_>) -> Chain
-        ensures { result.previous ≡ words_of 4 (drop 8 sheet.entry.entry.now) }
+    pub fn new(entry: &[u8]) -> Chain
+        requires { length entry.now ≡ 24 }
+        ensures { result.previous ≡ words_of 4 (drop 8 entry.now) }
     {
         Chain {
-            previous: cipher_bytes::load(sheet.entry, 8),
+            previous: cipher_bytes::load(entry, 8),
         }
     }
 

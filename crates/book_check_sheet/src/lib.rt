@@ -98,7 +98,7 @@ pub fn decrypted_sheet_holds<F: FFunctions>(cipher: Cipher<'_, F>, sheet: SheetB
 {
     let read = entry::read_sheet(sheet.entry);
     let fours = fours::<F>(read.count);
-    let chain = Chain::new(sheet);
+    let chain = Chain::new(sheet.entry);
     let mut previous = chain.previous;
     let mut holds = true;
     for i in 0..fours {

@@ -75,7 +75,7 @@ fn write_fours<F: FFunctions>(cipher: Cipher<'_, F>, sheet: SheetBytes<'_>, out:
     ensures { Continued true cipher.entry.expanded.now (whole_sheet sheet.entry) out.new result }
 {
     let fours = u16_at(sheet.entry, 4) / 4;
-    let chain = Chain::new(sheet);
+    let chain = Chain::new(sheet.entry);
     let mut previous = chain.previous;
     for i in 0..fours {
         let next = write_four(cipher, sheet.body, out, 64 * i, previous);
@@ -106,7 +106,7 @@ fn begin<F: FFunctions>(
     }
     Place {
         written: 0,
-        chain: Chain::new(sheet),
+        chain: Chain::new(sheet.entry),
     }
 }
 
