@@ -12,6 +12,7 @@ use Rattle.clefia_spec.specs.Words.{◌⊕◌}
 use Rattle.clefia_spec.specs.FFunction.{f0, f1}
 use Rattle.clefia_spec.specs.Network.{feistel, rotate_branches, rotate_left, rotate_right}
 use Rattle.clefia_laws.specs.NetworkLaws.{length_feistel}
+use Rattle.cipher_bytes.specs.ListLaws.{spelled, spell}
 
 pub first_stays : (f g : ℕ → ℕ → ℕ) (w : List ℕ) (i : ℕ) (s : List ℕ) (j : ℕ)
     → get_or (feistel f g w i s) (2 * j) 0 ≡ get_or s (2 * j) 0
@@ -53,6 +54,12 @@ unfolding function_of
 odd_pair f g zero h = let z : ⊥ = omega arith in absurd z
 odd_pair f g (suc zero) h = refl
 odd_pair f g (suc (suc j)) h = odd_pair f g j (omega arith)
+
+-- A step of four branches reads two round keys, whatever the list is that has them.
+pub by_two_keys : (f g : ℕ → ℕ → ℕ) (w : List ℕ) (i a b : ℕ) (s : List ℕ) → length s ≡ 4
+    → a ≡ get_or w i 0 → b ≡ get_or w (i + 1) 0 → feistel f g (a ∷ b ∷ []) 0 s ≡ feistel f g w i s
+unfolding spelled feistel
+by_two_keys f g w i a b s l p q = rw (spell 4 s l, p, q) refl
 
 -- ---- rotations, branch by branch
 

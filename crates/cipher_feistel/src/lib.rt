@@ -3,7 +3,7 @@
 
 #![tactic(auto)]
 
-ghost use Rattle.std.specs.Prelude.{◌≡◌, ◌+◌, ◌/◌, ◌≤◌, length};
+ghost use Rattle.std.specs.Prelude.{◌≡◌, ℕ, ◌+◌, ◌/◌, ◌≤◌, List, length, get_or};
 ghost use Rattle.clefia_spec.specs.FFunction.{f0, f1};
 ghost use Rattle.clefia_spec.specs.Network.{feistel, rotate_left, rotate_right};
 
@@ -47,4 +47,12 @@ pub fn feistel<F: FFunctions, const N: usize>(expanded: &[u32], at: usize, s: [u
         };
     }
     t
+}
+
+// The step of four branches with the round keys a and b, from whatever list they come.
+pub fn feistel4<F: FFunctions>(a: u32, b: u32, s: [u32; 4]) -> [u32; 4]
+    ensures { (expanded : List ℕ) (i : ℕ) → a ≡ get_or expanded i 0 → b ≡ get_or expanded (i + 1) 0
+        → result ≡ feistel f0 f1 expanded i s }
+{
+    feistel::<F, 4>(&[a, b], 0, s)
 }

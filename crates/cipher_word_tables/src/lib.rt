@@ -316,7 +316,7 @@ fn column(f: usize, j: usize, x: usize) -> u32
 }
 
 // F0 (f is 0) or F1 (f is 1) after the round key is added, added to y.
-fn mix(f: usize, z: u32, y: u32) -> u32
+pub fn by_word_tables(f: usize, z: u32, y: u32) -> u32
     requires { f < 2 }
     ensures { result ≡ y ⊕ mix f z }
 {
@@ -330,11 +330,11 @@ pub struct ByWordTables;
 
 impl FFunctions for ByWordTables {
     fn f0(k: u32, x: u32, y: u32) -> u32 {
-        mix(0, k ^ x, y)
+        by_word_tables(0, k ^ x, y)
     }
 
     fn f1(k: u32, x: u32, y: u32) -> u32 {
-        mix(1, k ^ x, y)
+        by_word_tables(1, k ^ x, y)
     }
 
     fn waits() -> bool {
