@@ -121,10 +121,11 @@ impl Book {
     }
 }
 
-// Writes a counter block: twelve bytes that count up from `first`, and the number in four. Past
-// them it is 0.
-pub fn write_counter(block: &mut [u8], first: u8, number: u32) {
-    let number = number.to_be_bytes();
+// Writes a counter block: twelve bytes that count up from `first`, modulo 256, and the number in
+// four, modulo 2 ^ 32. Past them it is 0.
+pub fn write_counter(block: &mut [u8], first: usize, number: usize) {
+    let first = (first % 0x100) as u8;
+    let number = ((number % 0x1_0000_0000) as u32).to_be_bytes();
     for (i, byte) in block.iter_mut().enumerate() {
         *byte = match i {
             0..12 => first.wrapping_add(i as u8),

@@ -80,8 +80,8 @@ pub enum Setting<'a> {
     },
     Counter {
         length: usize,
-        first: u8,
-        number: u32,
+        first: usize,
+        number: usize,
     },
     Sheet(usize),
     Put {
@@ -120,8 +120,8 @@ impl<'a> Setting<'a> {
             }),
             b"counter " => Some(Setting::Counter {
                 length: first,
-                first: low_byte(second),
-                number: (third % 0x1_0000_0000) as u32,
+                first: second,
+                number: third,
             }),
             b"sheet " => Some(Setting::Sheet(first)),
             b"put " => Some(Setting::Put {
