@@ -10,6 +10,9 @@ pub fn copy_front(kind: u8, book: &[u8], out: &mut [u8])
         ≡ set (take (4 + 24 * sheet_count book.now) book.now) 0 kind }
 {
     let end = HEAD_BYTES + ENTRY_BYTES * u16_at(book, 2);
-    out[..end].copy_from_slice(&book[..end]);
+    // (A loop: the slice's method would be the one call of memmove in the library.)
+    for i in 0..end {
+        out[i] = book[i];
+    }
     out[0] = kind;
 }
