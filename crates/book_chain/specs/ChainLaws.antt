@@ -147,6 +147,14 @@ chain_turn true c {w} {entry} {body} {out} {at} words bytes size h d =
     (words_of_block (below_drop at bytes))
     (decrypt_turn at words d.state bytes f h)
 
+-- ---- the block that is read ahead: it begins at `end`, or is the first again where n, the number
+-- of those that follow, is 0
+
+pub ahead_fits : (n : ℕ) {end size from : ℕ} → end + 16 * n ≡ size → 16 ≤ size → (end < size → from ≡ end)
+    → (size ≤ end → from ≡ 0) → from + 16 ≤ size
+ahead_fits zero {end} {size} {from} e h f g = let z : from ≡ 0 = g (omega arith) in omega arith
+ahead_fits (suc n) {end} {size} {from} e h f g = let z : from ≡ end = f (omega arith) in omega arith
+
 -- ---- a rule of the records, looked at as the chain is undone
 
 -- So far all records have held, or not (b); `left` are to come.

@@ -1,1 +1,2 @@
 pub mod BodiesLaws
+pub mod CursorBodies

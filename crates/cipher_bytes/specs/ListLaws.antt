@@ -1,7 +1,8 @@
 -- Lists of a known length, and four elements that are at a place of a list or are put there.
 use Rattle.std.specs.Prelude.{ℕ, zero, suc, ◌+◌, ◌-◌, ◌*◌, ◌≤◌, ◌<◌, ◌≡◌, refl, List, [], ◌∷◌, ◌++◌, length, get_or, set, take, drop}
-use Rattle.std.proofs.Common.{sym, ◌∙◌, ap, append_assoc, append-nil, add_assoc, mul-add, add-one, arith, length-append, take_all, take_at, take-suc, take-suc-set, drop-cons, drop-drop, length-take-le}
+use Rattle.std.proofs.Common.{sym, ◌∙◌, ap, append_assoc, append-nil, add_assoc, mul-add, add-one, arith, length-append, length-take, length-drop, take_all, take_at, take-suc, take-suc-set, drop-cons, drop-drop, length-take-le}
 use Rattle.std.proofs.Math.Numerals.{towards_suc}
+use Rattle.std.proofs.lemmas.List.Edits.{sets-eq}
 use borrow.Rule.Slice.PartMut.{put_mid, same_len_mid, mid_len}
 use Rattle.clefia_spec.specs.Words.{from_digits, to_digits, digits_of, numbers_of, bytes_of, words_of, four_at}
 
@@ -34,6 +35,12 @@ four_at_lem s i h =
 unfoldable pub put_four : List ℕ → ℕ → List ℕ → List ℕ
 put_four s i p = take i s ++ p ++ drop (i + 4) s
 
+-- Four stores, one after the other, put four elements.
+pub four_stores : (s : List ℕ) (i a b c d : ℕ) → i + 4 ≤ length s →
+    set (set (set (set s i a) (i + 1) b) (i + 2) c) (i + 3) d ≡ put_four s i (a ∷ b ∷ c ∷ d ∷ [])
+unfolding put_four
+four_stores s i a b c d h = simp towards_suc (simp towards_suc at (sets-eq (a ∷ b ∷ c ∷ d ∷ []) s i h))
+
 -- Four elements copied into the part from i to i + 4 are put there.
 pub four_put : (s : List ℕ) (i : ℕ) (p : List ℕ) → put_mid i (i + 4 - i) s p ≡ put_four s i p
 unfolding put_four
@@ -47,6 +54,11 @@ pub take_put_four : (s : List ℕ) (i : ℕ) (p : List ℕ) → length p ≡ 4 �
 unfolding put_four
 take_put_four s i p e h = take_at (take i s ++ p) (drop (i + 4) s) (i + 4)
     (length-append (take i s) p ∙ omega (arith, length-take-le i s (omega arith)))
+
+pub length_put_four : (s : List ℕ) (i : ℕ) (p : List ℕ) → length p ≡ 4 → i + 4 ≤ length s
+    → length (put_four s i p) ≡ length s
+unfolding put_four
+length_put_four s i p e h = simp (length-append, length-take, length-drop) (omega arith)
 
 -- A list is filled four elements at a time: what has been filled up to i, and what is to follow,
 -- make the whole.

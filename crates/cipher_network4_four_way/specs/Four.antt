@@ -1,6 +1,6 @@
 -- Four states: what is done to each, and two rounds on one state. A law is about one state; each
 -- state cites it.
-use Rattle.std.specs.Prelude.{ℕ, ◌+◌, ◌-◌, ◌*◌, ◌<◌, ◌≡◌, refl, List}
+use Rattle.std.specs.Prelude.{ℕ, ◌+◌, ◌-◌, ◌*◌, ◌<◌, ◌≡◌, refl, List, get_or}
 use Rattle.std.proofs.Common.{arith}
 use Rattle.clefia_spec.specs.FFunction.{f0, f1}
 use Rattle.clefia_spec.specs.Network.{feistel, rotate_left, rotate_right, rounds, undo_rounds}
@@ -12,6 +12,17 @@ each f s = record { a = f s.a; b = f s.b; c = f s.c; d = f s.d }
 
 pub each_same : {f g : List ℕ → List ℕ} → ((s : List ℕ) → f s ≡ g s) → (t : FourStates) → each f t ≡ each g t
 each_same h t = rw (h t.a, h t.b, h t.c, h t.d)
+
+-- The four keys from place i of w on: those of two rounds.
+pub record Keys (w : List ℕ) (i k0 k1 k2 k3 : ℕ) : Type 0 where
+  pub first : k0 ≡ get_or w i 0
+  pub second : k1 ≡ get_or w (i + 1) 0
+  pub third : k2 ≡ get_or w (i + 2) 0
+  pub fourth : k3 ≡ get_or w (i + 3) 0
+
+-- The last of them, as the second of two rounds requires it.
+pub last_key : {w : List ℕ} {i k0 k1 k2 k3 : ℕ} → Keys w i k0 k1 k2 k3 → k3 ≡ get_or w (i + 2 + 1) 0
+last_key {i = i} k = let p : i + 2 + 1 ≡ i + 3 = omega arith in rw p k.fourth
 
 -- Two rounds on a state, and the same two undone.
 pub two_rounds_lem : (w : List ℕ) (i : ℕ) (s : List ℕ) {t u : List ℕ} → t ≡ rotate_left (feistel f0 f1 w i s)

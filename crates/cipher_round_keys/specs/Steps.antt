@@ -1,8 +1,8 @@
 -- The steps of the key schedule: one and the rest, as the loop that fills a list with round keys
 -- cites them.
 use Prim.Native.Nat.{ℕ, suc, ◌+◌, ◌-◌, ◌*◌, ◌%◌, ◌≤◌, ◌<◌}
-use Rattle.std.specs.Prelude.{Bool, true, false, ◌≡◌, List, [], ◌++◌, eqb, ltb, length, take}
-use Rattle.std.proofs.Common.{◌∙◌}
+use Rattle.std.specs.Prelude.{Bool, true, false, ◌≡◌, refl, List, [], ◌++◌, eqb, ltb, length, take}
+use Rattle.std.proofs.Common.{sym, ◌∙◌, lt-ltb}
 use native.Mathlib.Omega.{arith}
 use Rattle.clefia_spec.specs.Words.{four_at, xors, choose}
 use Rattle.clefia_laws.specs.DigitLaws.{length_xors}
@@ -13,6 +13,13 @@ use Rattle.cipher_bytes.specs.ListLaws.{put_four, fill_four}
 pub data Period : ℕ → Type 0 where
   always : Period 2
   turns : Period 4
+
+pub always_first : (i : ℕ) {period : ℕ} → period ≡ 2 → true ≡ ltb (i % period) 2
+always_first i e = rw e (sym (lt-ltb (i % 2) 2 (omega arith)))
+
+pub first_alternately : (i : ℕ) {period : ℕ} → Period period → (period ≡ 2 → ⊥) → ltb (i % 4) 2 ≡ ltb (i % period) 2
+first_alternately i always h = absurd (h refl)
+first_alternately i turns h = refl
 
 -- The round keys of the steps that are left, at least one: those of step i, and the rest.
 module _ (period base : ℕ) (con : List ℕ) (i : ℕ) (k k' l l' : List ℕ) where
